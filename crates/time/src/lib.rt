@@ -1,0 +1,254 @@
+// Time in seconds and units of 2^-64 s, and clocks of a rational frequency.
+ghost use mathlib.Core.Path.{_≡_};
+ghost use Prim.Native.Nat.{_+_, _-_, _*_, _/_, _^_, _≤_, _<_, min};
+ghost use Rattle.time.specs.Time.{timeOf, timeFrom, momentOf, earlier, sameTime, sumOf, sinceOf, nextTime, midway};
+ghost use Rattle.time.specs.Clock.{edgeOf, edgesBefore, zeroIn, newClock, afterOf, edgesBeforeOf};
+use words::Wide;
+use words::divide;
+use words::product;
+use words::product_by;
+use words::scaled_quotient;
+use words::sum;
+use words::upper_of_one_less;
+
+// Whole seconds, and a fraction of a second in units of 2^-64 s.
+pub struct Time {
+    pub seconds: u64,
+    pub fraction: u64,
+}
+
+// A time, or the number of its refusal.
+pub enum Moment {
+    At(Time),
+    Refused(u8),
+}
+
+// A count of edges, or the number of its refusal.
+pub enum Count {
+    Of(u64),
+    Refused(u8),
+}
+
+// A clock of numerator / denominator Hz whose edge 0 is its start.
+pub struct Clock {
+    pub start: Time,
+    pub numerator: u64,
+    pub denominator: u64,
+}
+
+// A clock, or the number of its refusal.
+pub enum NewClock {
+    Made(Clock),
+    Refused(u8),
+}
+
+impl Time {
+    // Whether the time is earlier than another.
+    pub fn before(self, other: Time) -> bool
+        ensures { λ r. ⌜ r ≡ earlier self other ⌝ }
+    {
+        if self.seconds == other.seconds {
+            return self.fraction < other.fraction;
+        }
+        self.seconds < other.seconds
+    }
+
+    // Whether the two times are one.
+    pub fn same(self, other: Time) -> bool
+        ensures { λ r. ⌜ r ≡ sameTime self other ⌝ }
+    {
+        (self.seconds == other.seconds) & (self.fraction == other.fraction)
+    }
+
+    // The time that much later, or refusal 7 past the last time.
+    pub fn checked_add(self, by: Time) -> Moment
+        ensures { λ r. ⌜ r ≡ sumOf self by ⌝ }
+    {
+        let low = sum(self.fraction, by.fraction);
+        let high = sum(self.seconds, by.seconds);
+        if high.high != 0 {
+            return Moment::Refused(7);
+        }
+        let top = sum(high.low, low.high);
+        if top.high != 0 {
+            return Moment::Refused(7);
+        }
+        Moment::At(Time {
+            seconds: top.low,
+            fraction: low.low,
+        })
+    }
+
+    // The time since another that is no later.
+    fn since(self, other: Time) -> Time
+        requires { ⌜ timeOf other ≤ timeOf self ⌝ }
+        ensures { λ r. ⌜ r ≡ timeFrom (timeOf self - timeOf other) ⌝ }
+    {
+        let fraction = std::num::wrapping_sub_u64(self.fraction, other.fraction);
+        if self.fraction < other.fraction {
+            return Time {
+                seconds: self.seconds - other.seconds - 1,
+                fraction,
+            };
+        }
+        Time {
+            seconds: self.seconds - other.seconds,
+            fraction,
+        }
+    }
+
+    // The time since an earlier one, or refusal 8 where that is the later.
+    pub fn duration_since(self, before: Time) -> Moment
+        ensures { λ r. ⌜ r ≡ sinceOf self before ⌝ }
+    {
+        let reversed = self.before(before);
+        if reversed {
+            return Moment::Refused(8);
+        }
+        Moment::At(self.since(before))
+    }
+
+    // One unit later; the last time stays.
+    pub fn next(self) -> Time
+        ensures { λ r. ⌜ r ≡ nextTime self ⌝ }
+    {
+        let low = sum(self.fraction, 1);
+        let high = sum(self.seconds, low.high);
+        if high.high != 0 {
+            return self;
+        }
+        Time {
+            seconds: high.low,
+            fraction: low.low,
+        }
+    }
+
+    // Half of a time, rounded down.
+    fn half(self) -> Time
+        ensures { λ r. ⌜ r ≡ timeFrom (timeOf self / 2) ⌝ }
+    {
+        Time {
+            seconds: self.seconds / 2,
+            fraction: self.seconds % 2 * 0x8000_0000_0000_0000 + self.fraction / 2,
+        }
+    }
+
+    // How many whole periods of denominator / numerator seconds end before this time has passed, at most 2^64 - 1.
+    fn periods(self, numerator: u64, denominator: u64) -> u64
+        requires { ⌜ 0 < denominator ⌝ }
+        ensures { λ r. ⌜ r ≡ min ((timeOf self * numerator - 1) / 2 ^ 64 / denominator) (2 ^ 64 - 1) ⌝ }
+    {
+        let since = Wide {
+            high: self.seconds,
+            low: self.fraction,
+        };
+        let scaled = upper_of_one_less(product_by(since, numerator));
+        if denominator <= scaled.high {
+            return u64::MAX;
+        }
+        if denominator == 1 {
+            return scaled.low;
+        }
+        divide(scaled, denominator).quotient.low
+    }
+
+    // The time halfway to a later one, rounded down; the time itself where the other is earlier.
+    pub fn midway(self, later: Time) -> Time
+        ensures { λ r. ⌜ r ≡ midway self later ⌝ }
+    {
+        let reversed = later.before(self);
+        if reversed {
+            return self;
+        }
+        let gap = later.since(self);
+        let Moment::At(t) = self.checked_add(gap.half()) else {
+            return self;
+        };
+        t
+    }
+}
+
+impl Clock {
+    // A clock, or refusal 1 where the frequency or its denominator is zero.
+    pub fn new(start: Time, numerator: u64, denominator: u64) -> NewClock
+        ensures { λ r. ⌜ r ≡ newClock start numerator denominator ⌝ }
+    {
+        let clock = Clock {
+            start,
+            numerator,
+            denominator,
+        };
+        let zero = clock.has_zero();
+        if zero {
+            return NewClock::Refused(1);
+        }
+        NewClock::Made(clock)
+    }
+
+    // Whether the numerator or the denominator is zero.
+    pub fn has_zero(self) -> bool
+        ensures { λ r. ⌜ r ≡ zeroIn self ⌝ }
+    {
+        (self.numerator == 0) | (self.denominator == 0)
+    }
+
+    // The time of the edge of that number after the start, or 7: the whole seconds of its periods, and what they leave of a second.
+    fn edge(self, edges: u64) -> Moment
+        requires { ⌜ 0 < self .numerator ⌝ }
+        ensures { λ r. ⌜ r ≡ momentOf (edgeOf self edges) ⌝ }
+    {
+        let start = self.start;
+        let periods = product(edges, self.denominator);
+        if periods.high == 0 {
+            let since = scaled_quotient(periods.low, self.numerator);
+            return start.checked_add(Time {
+                seconds: since.high,
+                fraction: since.low,
+            });
+        }
+        let seconds = divide(periods, self.numerator);
+        if seconds.quotient.high != 0 {
+            return Moment::Refused(7);
+        }
+        let fraction = scaled_quotient(seconds.remainder, self.numerator);
+        start.checked_add(Time {
+            seconds: seconds.quotient.low,
+            fraction: fraction.low,
+        })
+    }
+
+    // The time of the edge of that number after the start; refusal 1 for a zero in the clock, 7 past the last time.
+    pub fn after(self, edges: u64) -> Moment
+        ensures { λ r. ⌜ r ≡ afterOf self edges ⌝ }
+    {
+        let zero = self.has_zero();
+        if zero {
+            return Moment::Refused(1);
+        }
+        self.edge(edges)
+    }
+
+    // How many edges after the start are earlier than the limit, at most 2^64 - 1.
+    fn count(self, limit: Time) -> u64
+        requires { ⌜ (0 < self .numerator) × (0 < self .denominator) ⌝ }
+        ensures { λ r. ⌜ r ≡ edgesBefore self (timeOf limit) ⌝ }
+    {
+        let start = self.start;
+        let late = start.before(limit);
+        if late {
+            return limit.since(start).periods(self.numerator, self.denominator);
+        }
+        0
+    }
+
+    // How many edges after the start are earlier than the limit, at most 2^64 - 1; refusal 1 for a zero in the clock.
+    pub fn edges_before(self, limit: Time) -> Count
+        ensures { λ r. ⌜ r ≡ edgesBeforeOf self limit ⌝ }
+    {
+        let zero = self.has_zero();
+        if zero {
+            return Count::Refused(1);
+        }
+        Count::Of(self.count(limit))
+    }
+}
