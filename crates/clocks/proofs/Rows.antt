@@ -23,6 +23,8 @@ third = record { start = at 0 0; numerator = 3; denominator = 1 }
 abbrev countAt : ℕ → Count
 countAt f = domainTicks (runningFrom (at 0 0) third) (at 0 f)
 
-pub rows : (afterOf third 1, afterOf third 3, countAt 0x5555555555555554, countAt 0x5555555555555555) ≡ (At (at 0 0x5555555555555555), At (at 1 0), Of 0, Of 1)
+pub rows : _≡_ {A = Moment × Moment × Count × Count}
+    (afterOf third 1, afterOf third 3, countAt 0x5555555555555554, countAt 0x5555555555555555)
+    (At (at 0 0x5555555555555555), At (at 1 0), Of 0, Of 1)
 unfolding afterOf edgeOf momentOf zeroIn domainTicks nextTime edgesBeforeOf
 rows = rw (edges-before-is third 0x5555555555555555 (lit< tt) (lit< tt), edges-before-is third 0x5555555555555556 (lit< tt) (lit< tt)) refl
