@@ -3,7 +3,7 @@ use mathlib.Core.Path.{_≡_, refl, sym, ap, _∙_, subst}
 use mathlib.Core.Bool.{Bool, true, false, cond, _||_}
 use mathlib.Core.Logic.{_⊎_, inl, inr, ⊎-elim}
 use Prim.Native.Nat.{ℕ, zero, suc, _+_, _-_, _*_, _/_, _^_, _≤_, _<_, min}
-use native.Mathlib.Nat.{min-zero, zero-mul, zero-sub, zero-div, zero-min, min-le-left, min-le-right, le-trans, le-refl, add-le-add, mul-assoc, mul-pos, mul-le-mul-right, div-zero, eq-zero-or-pos, div-mul-le-self, le-of-eq, le-div-iff-mul-le, div-lt-iff-lt-mul, pos-of-ne-zero, lt-of-not-le}
+use native.Mathlib.Nat.{min-zero, zero-mul, zero-sub, zero-div, zero-min, min-le-left, le-trans, le-refl, add-le-add, mul-assoc, mul-pos, mul-le-mul-right, div-zero, eq-zero-or-pos, div-mul-le-self, le-of-eq, le-div-iff-mul-le, div-lt-iff-lt-mul, pos-of-ne-zero, lt-of-not-le}
 use native.Mathlib.Omega.{arith}
 use borrow.Author.Tests.{ltb-true, ltb-false, lt-ltb, le-ltb, eqb-false}
 use lib.Arith.{digits-lt, digits-div, digits-mod}
@@ -127,6 +127,16 @@ count-prefix test m pass fail (suc k) =
     (λ h. let e : _≡_ {A = ℕ} (cond (test (suc k)) 1 0) 1 = ap (λ (t : Bool). cond t 1 0) (pass (suc k) (omega arith) h) in omega arith)
     (lt-or-le m (suc k))
 
+-- a count to k is at most k
+pub count-le : (test : ℕ → Bool) (k : ℕ) → countTo test k ≤ k
+unfolding countTo
+count-le test zero = le-refl 0
+count-le test (suc k) = one-more (test (suc k)) (count-le test k)
+  where
+    one-more : (t : Bool) {x y : ℕ} → x ≤ y → x + cond t 1 0 ≤ suc y
+    one-more true h = omega arith
+    one-more false h = omega arith
+
 module _ (c : Clock) (limit : ℕ) (hh : 0 < c .numerator) (hd : 0 < c .denominator) where
   -- the number of the last edge before the limit, however large
   abbrev last : ℕ
@@ -168,9 +178,6 @@ module _ (c : Clock) (limit : ℕ) (hh : 0 < c .numerator) (hd : 0 < c .denomina
   unfolding edgesBefore
   edges-before-is = count-prefix (λ n. ltb (edgeOf c n) limit) last (λ n pos le. lt-ltb (edgeOf c n) limit (early n pos le)) (λ n lt. le-ltb (edgeOf c n) limit (late n lt)) (2 ^ 64 - 1)
 
-  pub edges-before-le : edgesBefore c limit ≤ 2 ^ 64 - 1
-  edges-before-le = subst (λ (x : ℕ). x ≤ 2 ^ 64 - 1) (sym edges-before-is) (min-le-right last (2 ^ 64 - 1))
-
   pub none-before : limit ≤ timeOf (c .start) → edgesBefore c limit ≡ 0
   none-before le =
       let z : limit - timeOf (c .start) ≡ 0 = omega arith in
@@ -185,6 +192,10 @@ module _ (c : Clock) (limit : ℕ) (hh : 0 < c .numerator) (hd : 0 < c .denomina
     where
       over : (m k n : ℕ) → min m k < n → n ≤ k → m < n
       over m k n f g = omega arith
+
+pub edges-before-le : (c : Clock) (limit : ℕ) → edgesBefore c limit ≤ 2 ^ 64 - 1
+unfolding edgesBefore
+edges-before-le c limit = count-le (λ n. ltb (edgeOf c n) limit) (2 ^ 64 - 1)
 
 -- an edge counts from one unit after it on, and not before
 pub edge-reached : (c : Clock) (n : ℕ) → 0 < c .numerator → 0 < c .denominator → n ≤ 2 ^ 64 - 1 → n ≤ edgesBefore c (edgeOf c n + 1)

@@ -1,0 +1,100 @@
+//! Times `Clock::after` and `Clock::edges_before` of the port against the Rust's, on the same inputs in the same run.
+//! Either side is one call of an `extern "C"` function for an input, which is not inlined. The Rust's clock is made once,
+//! as its users do; the port's is its three values, handed over in each call.
+use reference::time::{Clock, Time};
+use std::hint::black_box;
+use std::time::Instant;
+
+#[path = "../random.rs"]
+#[allow(dead_code)]
+mod random;
+use random::Random;
+
+/// Inputs of a round, and rounds of each side, which take turns.
+const INPUTS: usize = 200_000;
+const ROUNDS: usize = 31;
+const DAY: u64 = 86_400;
+/// Numerator and denominator of the frequencies.
+const RATES: [(u64, u64); 3] = [(3_686_400, 1), (32_768, 8), (6_000_000_000, 1)];
+
+#[inline(never)]
+extern "C" fn rust_after(clock: &Clock, edges: u64) -> u64 {
+    clock.after(edges).map_or(0, |t| ((t.raw() >> 64) as u64).wrapping_add(t.raw() as u64))
+}
+
+#[inline(never)]
+extern "C" fn rust_edges_before(clock: &Clock, seconds: u64, fraction: u64) -> u64 {
+    clock.edges_before(Time::from_raw(words::layout::joined(seconds, fraction)))
+}
+
+/// Nanoseconds a call, and the sum of the answers.
+fn timed<T: Copy>(inputs: &[T], call: impl Fn(T) -> u64) -> (f64, u64) {
+    let start = Instant::now();
+    let mut sum = 0u64;
+    for input in inputs {
+        sum = sum.wrapping_add(call(black_box(*input)));
+    }
+    (start.elapsed().as_nanos() as f64 / inputs.len() as f64, sum)
+}
+
+/// The best of the port's and of the Rust's time for a call: what else the machine does only adds to one.
+fn race<T: Copy>(inputs: &[T], port: impl Fn(T) -> u64, rust: impl Fn(T) -> u64) -> Result<[f64; 2], String> {
+    let mut best = [f64::INFINITY; 2];
+    for _ in 0..ROUNDS {
+        let (ours, our_sum) = timed(inputs, &port);
+        let (theirs, their_sum) = timed(inputs, &rust);
+        if our_sum != their_sum {
+            return Err(format!("the answers part: {our_sum:#x} and {their_sum:#x}"));
+        }
+        best = [best[0].min(ours), best[1].min(theirs)];
+    }
+    Ok(best)
+}
+
+fn row(name: &str, span: &str, rate: (u64, u64), [port, rust]: [f64; 2]) {
+    let hz = format!("{}/{}", rate.0, rate.1);
+    println!("{name:<20}{hz:>14} {span:<14}{port:>8.1}{rust:>8.1}{:>8.2}", port / rust);
+}
+
+fn run() -> Result<(), String> {
+    println!(
+        "{INPUTS} random inputs, best of {ROUNDS} rounds in which the port and the Rust take turns; nanoseconds a call"
+    );
+    println!("{:<20}{:>14} {:<14}{:>8}{:>8}{:>8}", "function", "Hz", "inputs", "port", "Rust", "ratio");
+    let mut random = Random::new(1);
+    for rate in RATES {
+        let (numerator, denominator) = rate;
+        let start = Time::from_raw(5 << 64);
+        let clock = Clock::new(start, numerator, denominator).map_err(|e| format!("{e:?}"))?;
+        for (span, seconds) in [("in a day", DAY), ("in 100 years", 36_525 * DAY)] {
+            let most = (u128::from(seconds) * u128::from(numerator) / u128::from(denominator)) as u64;
+            let edges: Vec<u64> = (0..INPUTS).map(|_| random.below(most)).collect();
+            let times = race(
+                &edges,
+                // SAFETY: a proved function without a `requires`, declared with the types that it has.
+                |n| unsafe { port::probe_after(5, 0, numerator, denominator, n) },
+                |n| rust_after(&clock, n),
+            )?;
+            row("Clock::after", span, rate, times);
+            let limits: Vec<(u64, u64)> = (0..INPUTS).map(|_| (5 + random.below(seconds), random.word())).collect();
+            let times = race(
+                &limits,
+                // SAFETY: as above.
+                |(s, f)| unsafe { port::probe_edges_before(5, 0, numerator, denominator, s, f) },
+                |(s, f)| rust_edges_before(&clock, s, f),
+            )?;
+            row("Clock::edges_before", span, rate, times);
+        }
+    }
+    Ok(())
+}
+
+fn main() -> std::process::ExitCode {
+    match run() {
+        Ok(()) => std::process::ExitCode::SUCCESS,
+        Err(reason) => {
+            eprintln!("bench: {reason}");
+            std::process::ExitCode::FAILURE
+        }
+    }
+}

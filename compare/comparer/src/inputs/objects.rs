@@ -1,0 +1,120 @@
+//! Clocks, domains, prescalers, taps, waits and whole sets, sound ones and damaged ones.
+use super::focus::Focus;
+use super::numbers;
+use crate::random::Random;
+use words::layout::{self, Set};
+
+pub fn clock(random: &mut Random, damaged: bool) -> [u64; layout::CLOCK] {
+    let [seconds, fraction] = layout::halves(numbers::start(random));
+    let (mut numerator, mut denominator) = (numbers::frequency(random), numbers::denominator(random));
+    if damaged {
+        numerator = numbers::or_zero(random, numerator, 2);
+        denominator = numbers::or_zero(random, denominator, 2);
+    }
+    [seconds, fraction, numerator, denominator]
+}
+
+pub fn domain(random: &mut Random, damaged: bool) -> [u64; layout::DOMAIN] {
+    let clock = clock(random, damaged);
+    held(random, clock)
+}
+
+/// A clock as a domain, which mostly runs, held at a time near its edges.
+fn held(random: &mut Random, clock: [u64; layout::CLOCK]) -> [u64; layout::DOMAIN] {
+    let mut domain = [0; layout::DOMAIN];
+    domain[..layout::CLOCK].copy_from_slice(&clock);
+    domain[4] = u64::from(!random.once_in(8));
+    let mut focus = Focus::new(&[1; layout::SET]);
+    focus.clock = clock;
+    let at = if random.once_in(2) { layout::time_at(&clock, 0) } else { numbers::time(random, &focus) };
+    domain[5..].copy_from_slice(&layout::halves(at));
+    domain
+}
+
+/// Anchor, phase, running, counts: as a new one, as one in use, or damaged.
+pub fn prescaler(random: &mut Random, stages: usize, out: &mut [u64]) {
+    out.fill(0);
+    out[2] = u64::from(!random.once_in(8));
+    let kind = random.below(10);
+    if kind < 2 {
+        return;
+    }
+    let anchor = numbers::word(random);
+    out[0] = anchor;
+    out[1] = random.below(1 << stages);
+    for (i, emitted) in out[layout::DIVIDER..].iter_mut().enumerate() {
+        *emitted = if kind < 7 { anchored(random, anchor, i) } else { numbers::word(random) };
+    }
+    if kind >= 8 {
+        out[1] = numbers::word(random) & 0xffff;
+    }
+}
+
+/// What a stage has counted at the anchor, in one that is sound.
+fn anchored(random: &mut Random, anchor: u64, stage: usize) -> u64 {
+    let most = anchor >> (stage + 1);
+    if random.once_in(3) {
+        random.below(most.max(1))
+    } else {
+        most
+    }
+}
+
+pub fn tap(random: &mut Random) -> [u64; layout::TAP] {
+    let source = match random.below(10) {
+        0..=3 => 0,
+        4..=5 => 2,
+        _ => random.below(layout::DOMAINS as u64),
+    };
+    [source, numbers::divider(random)]
+}
+
+pub fn wait(random: &mut Random, set: &Set) -> [u64; layout::WAIT] {
+    let tap = tap(random);
+    let mut focus = Focus::new(set);
+    focus.look(words::calls::Kind::Tap, &tap, set);
+    let state = random.pick(&[0, 0, 0, 1, 1, 2]);
+    let [first, second] = match state {
+        0 => [numbers::tick(random, &focus), 0],
+        1 => [numbers::more(random, &focus), 0],
+        _ => layout::halves(numbers::time(random, &focus)),
+    };
+    [tap[0], tap[1], state, first, second]
+}
+
+pub fn frequencies(random: &mut Random) -> [u64; layout::FREQUENCIES] {
+    if random.once_in(8) {
+        return [3_686_400, 32_768, 1_310_720];
+    }
+    core::array::from_fn(|_| {
+        let n = numbers::frequency(random);
+        numbers::or_zero(random, n, 40)
+    })
+}
+
+/// A set as `Clocks::new` makes it, or six domains and two prescalers of any kind; now and then with a damaged clock.
+pub fn set(random: &mut Random) -> Set {
+    let mut set = [0; layout::SET];
+    let damaged = random.once_in(25);
+    let broken = random.below(layout::DOMAINS as u64) as usize;
+    let fresh = random.once_in(4);
+    let [main, watch, on_chip] = frequencies(random).map(|hz| hz.max(1));
+    let hz = [main, main, watch, on_chip, main, watch];
+    let start = layout::halves(numbers::start(random));
+    for source in 0..layout::DOMAINS {
+        let words = if fresh {
+            [start[0], start[1], hz[source], if source == 5 { 8 } else { 1 }, 1, start[0], start[1]]
+        } else {
+            domain(random, damaged && source == broken)
+        };
+        set[source * layout::DOMAIN..][..layout::DOMAIN].copy_from_slice(&words);
+    }
+    prescaler(random, layout::STAGES_S, &mut set[layout::AT_S..layout::AT_W]);
+    prescaler(random, layout::STAGES_W, &mut set[layout::AT_W..]);
+    if fresh && !random.once_in(4) {
+        set[layout::AT_S..].fill(0);
+        set[layout::AT_S + 2] = 1;
+        set[layout::AT_W + 2] = 1;
+    }
+    set
+}

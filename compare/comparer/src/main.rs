@@ -1,0 +1,24 @@
+//! Compares the port with the unmodified Rust, call by call: on every boundary, then at random.
+mod inputs;
+mod judge;
+mod options;
+mod part;
+mod random;
+mod report;
+mod shrink;
+use std::process::ExitCode;
+
+fn main() -> ExitCode {
+    let options = match options::read(std::env::args().skip(1)) {
+        Ok(options) => options,
+        Err(reason) => {
+            eprintln!("compare: {reason}");
+            return ExitCode::from(2);
+        }
+    };
+    // A trap of the Rust is an end like any other here.
+    std::panic::set_hook(Box::new(|_| {}));
+    let differences: u64 = options.parts().iter().map(|part| part::compare(part, &options)).sum();
+    println!("differences: {differences}");
+    ExitCode::from(u8::from(differences != 0))
+}

@@ -1,0 +1,46 @@
+//! The command line.
+use words::calls::{self, Function};
+
+pub struct Options {
+    pub seed: u64,
+    /// Random calls of each part.
+    pub count: u64,
+    part: String,
+}
+
+/// Functions that are compared together.
+pub struct Part {
+    pub name: &'static str,
+    pub functions: &'static [Function],
+}
+
+const PARTS: [Part; 2] =
+    [Part { name: "time", functions: calls::TIME }, Part { name: "clocks", functions: calls::CLOCKS }];
+
+pub fn read(mut words: impl Iterator<Item = String>) -> Result<Options, String> {
+    let mut options = Options { seed: 1, count: 1_000_000, part: "all".to_string() };
+    while let Some(word) = words.next() {
+        let value = words.next().ok_or(format!("{word} wants a value"))?;
+        match word.as_str() {
+            "--seed" => options.seed = number(&value)?,
+            "--count" => options.count = number(&value)?,
+            "--part" => options.part = value,
+            _ => return Err(format!("no option {word}: --seed N, --count N, --part NAME")),
+        }
+    }
+    if options.parts().is_empty() {
+        let names = PARTS.map(|part| part.name).join(", ");
+        return Err(format!("no part {}: all, {names}", options.part));
+    }
+    Ok(options)
+}
+
+fn number(text: &str) -> Result<u64, String> {
+    text.replace('_', "").parse().map_err(|_| format!("not a number: {text}"))
+}
+
+impl Options {
+    pub fn parts(&self) -> Vec<&'static Part> {
+        PARTS.iter().filter(|part| self.part == "all" || self.part == part.name).collect()
+    }
+}

@@ -1,0 +1,89 @@
+//! Compares the functions of one part.
+use crate::inputs::{self, grid};
+use crate::judge::{self, Judge, Sets};
+use crate::options::{Options, Part};
+use crate::random::Random;
+use crate::report::{self, Tally};
+use crate::shrink;
+use std::time::Instant;
+use words::calls::Function;
+use words::layout::{self, Args, Set};
+
+/// Differences of a function that are printed.
+const SHOWN: u64 = 3;
+/// Random calls over one clock set, so that what the Rust remembers of a set is tried too.
+const CALLS_OF_SET: u64 = 32;
+
+struct Comparison {
+    judge: Judge,
+    tallies: Vec<Tally>,
+}
+
+/// Prints what was found, and returns how many differences there are.
+pub fn compare(part: &Part, options: &Options) -> u64 {
+    let functions: Vec<&Function> = part.functions.iter().collect();
+    let mut comparison = Comparison { judge: Judge::new(), tallies: vec![Tally::default(); functions.len()] };
+    let mut random = Random::new(options.seed);
+    let start = Instant::now();
+    for (row, function) in functions.iter().enumerate() {
+        grid::each(&mut random, function, &mut |set, args| {
+            let sets = if function.set { judge::sets(set) } else { None };
+            comparison.call(row, function, set, &sets, args);
+        });
+    }
+    let boundaries = comparison.calls();
+    comparison.at_random(&mut random, &functions, options.count);
+    let seconds = start.elapsed().as_secs_f64();
+    let rows: Vec<(&Function, Tally)> = functions.into_iter().zip(comparison.tallies.iter().cloned()).collect();
+    report::table(&rows);
+    let calls = comparison.calls();
+    println!(
+        "{}: seed {}, {boundaries} calls on boundaries, {} at random, {:.1} s, {:.2} million calls a second",
+        part.name,
+        options.seed,
+        calls - boundaries,
+        seconds,
+        calls as f64 / seconds / 1e6
+    );
+    comparison.tallies.iter().map(|tally| tally.differences).sum()
+}
+
+impl Comparison {
+    fn calls(&self) -> u64 {
+        self.tallies.iter().map(|tally| tally.calls).sum()
+    }
+
+    fn at_random(&mut self, random: &mut Random, functions: &[&Function], count: u64) {
+        let mut words = [0; layout::SET];
+        let mut sets = None;
+        let mut args = [0; layout::ARGS];
+        for call in 0..count {
+            if call % CALLS_OF_SET == 0 && functions.iter().any(|f| f.set) {
+                words = inputs::set(random);
+                sets = judge::sets(&words);
+            }
+            let row = random.below(functions.len() as u64) as usize;
+            inputs::arguments(random, functions[row], &words, &mut args);
+            self.call(row, functions[row], &words, &sets, &args);
+        }
+    }
+
+    fn call(&mut self, row: usize, function: &Function, set: &Set, sets: &Sets, args: &Args) {
+        let expected = self.judge.run(function, set, sets, args);
+        let agrees = self.judge.agrees(function, args, expected);
+        self.tallies[row].add(&self.judge, expected, agrees);
+        if !agrees && self.tallies[row].differences <= SHOWN {
+            show(function, set, args);
+        }
+    }
+}
+
+fn show(function: &Function, set: &Set, args: &Args) {
+    let (set, args, alone) = shrink::smallest(function, set, args);
+    let mut judge = Judge::new();
+    let expected = judge.run(function, &set, &judge::sets(&set), &args);
+    report::difference(function, &set, &args, &judge, expected);
+    if !alone {
+        println!("  only after other calls over the same set");
+    }
+}

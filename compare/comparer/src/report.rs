@@ -1,0 +1,76 @@
+//! Counts of the calls of a function by their ends, and the differences found.
+use crate::judge::{Expected, Judge};
+use words::calls::{End, Function};
+use words::layout::{Args, Set};
+
+/// The refusals that the functions below the peripheral draw.
+const NUMBERS: [u8; 6] = [1, 2, 3, 7, 8, 11];
+
+#[derive(Clone, Default)]
+pub struct Tally {
+    pub calls: u64,
+    answered: u64,
+    refused: [u64; NUMBERS.len()],
+    trapped: u64,
+    pub differences: u64,
+}
+
+impl Tally {
+    pub fn add(&mut self, judge: &Judge, expected: Expected, agrees: bool) {
+        self.calls += 1;
+        self.differences += u64::from(!agrees);
+        match judge.port.end {
+            End::Done => self.answered += 1,
+            End::Refused(number) => {
+                if let Some(place) = NUMBERS.iter().position(|n| *n == number) {
+                    self.refused[place] += 1;
+                }
+            }
+            End::Trapped(_) => {}
+        }
+        let trapped = matches!(judge.checked.end, End::Trapped(_)) && expected != Expected::Rust;
+        self.trapped += u64::from(trapped && ran(expected));
+    }
+}
+
+/// Whether the Rust was called.
+fn ran(expected: Expected) -> bool {
+    !matches!(expected, Expected::Refusal(1 | 3))
+}
+
+pub fn table(rows: &[(&Function, Tally)]) {
+    print!("{:<27}{:>12}{:>12}", "function", "calls", "answered");
+    for number in NUMBERS {
+        print!("{:>10}", format!("refused {number}"));
+    }
+    println!("{:>10}{:>13}", "traps", "differences");
+    for (function, tally) in rows {
+        print!("{:<27}{:>12}{:>12}", function.name, tally.calls, tally.answered);
+        for count in tally.refused {
+            print!("{count:>10}");
+        }
+        println!("{:>10}{:>13}", tally.trapped, tally.differences);
+    }
+}
+
+/// One difference, with the input that shows it.
+pub fn difference(function: &Function, set: &Set, args: &Args, judge: &Judge, expected: Expected) {
+    println!("difference: {}", function.name);
+    let mut at = 0;
+    for kind in function.takes {
+        println!("  {kind:?}: {}", shown(&args[at..at + kind.words()]));
+        at += kind.words();
+    }
+    if function.set {
+        println!("  set: {}", shown(set));
+    }
+    println!("  expected: {expected:?}");
+    for (name, answer) in [("port", &judge.port), ("plain", &judge.plain), ("checked", &judge.checked)] {
+        println!("  {name}: {:?} {}", answer.end, shown(&answer.words[1..=function.gives]));
+    }
+}
+
+fn shown(words: &[u64]) -> String {
+    let each: Vec<String> = words.iter().map(|word| format!("{word:#x}")).collect();
+    each.join(" ")
+}

@@ -1,0 +1,46 @@
+//! Lays the six files of the Rust, byte for byte, beside stand-ins for the modules that it lacks, in the build folder.
+//! The folder that holds the Rust is a setting, JETTYPRUNE_SRC.
+use std::path::{Path, PathBuf};
+use std::{env, fs};
+
+const FILES: [&str; 6] =
+    ["time.rs", "state.rs", "mcu/clocks.rs", "mcu/clocks/domain.rs", "mcu/clocks/prescaler.rs", "mcu/iic.rs"];
+
+fn main() {
+    if let Err(reason) = lay_out() {
+        eprintln!("{reason}");
+        std::process::exit(1);
+    }
+}
+
+fn lay_out() -> Result<(), String> {
+    let compare = Path::new(env!("CARGO_MANIFEST_DIR")).parent().ok_or("no folder above this crate")?;
+    let stand_ins = compare.join("reference/src");
+    let source = match env::var_os("JETTYPRUNE_SRC") {
+        Some(folder) => PathBuf::from(folder),
+        None => compare.join("../../shared/docs/src"),
+    };
+    println!("cargo:rerun-if-env-changed=JETTYPRUNE_SRC");
+    let tree = PathBuf::from(env::var_os("OUT_DIR").ok_or("cargo gave no OUT_DIR")?).join("rust");
+    for file in FILES {
+        let from = source.join("crates/hs-core/src").join(file);
+        println!("cargo:rerun-if-changed={}", from.display());
+        let text = fs::read(&from).map_err(|e| format!("{}: {e}", from.display()))?;
+        write(&tree.join(file), &text)?;
+    }
+    let inside = format!("#[path = {:?}]\npub(crate) mod inside;\n", stand_ins.join("inside.rs"));
+    write(&tree.join("mcu/clocks/startup.rs"), inside.as_bytes())?;
+    let cursor = "pub(crate) struct CpuCursor;\npub(crate) struct CpuWindow;\n";
+    write(&tree.join("mcu/clocks/cursor.rs"), cursor.as_bytes())?;
+    write(&tree.join("mcu/mod.rs"), b"pub mod clocks;\npub mod iic;\n")?;
+    let root = ["time.rs", "state.rs", "mcu/mod.rs"].map(|file| {
+        let name = file.split(['/', '.']).next().unwrap_or(file);
+        format!("#[allow(dead_code, unused_imports)]\n#[path = {:?}]\npub mod {name};\n", tree.join(file))
+    });
+    write(&tree.join("root.rs"), root.concat().as_bytes())
+}
+
+fn write(to: &Path, text: &[u8]) -> Result<(), String> {
+    let done = fs::create_dir_all(to.parent().unwrap_or(to)).and_then(|()| fs::write(to, text));
+    done.map_err(|e| format!("{}: {e}", to.display()))
+}

@@ -1,0 +1,90 @@
+//! prescaler.rs, domain.rs and clocks.rs, less the waits.
+use super::inside::{self, parent_edge, prescaler_high, prescaler_ticks};
+use super::{put, put_time, time, wait};
+use crate::mcu::clocks::{Clocks, Frequencies, Tap};
+use crate::time::TimeError;
+use crate::{Error, Time};
+use words::calls::Call;
+use words::layout::{self, Args, PRESCALER_S, PRESCALER_W, STAGES_S, STAGES_W};
+
+/// The calls that are handed no clock set.
+pub fn plain(call: Call, args: &Args, out: &mut [u64]) -> Result<(), Error> {
+    match call {
+        Call::CrossingsS => out[0] = crossings::<STAGES_S>(args),
+        Call::CrossingsW => out[0] = crossings::<STAGES_W>(args),
+        Call::TicksS => out[0] = prescaler_ticks::<STAGES_S>(args, parent(args, PRESCALER_S), stage(args, PRESCALER_S)),
+        Call::TicksW => out[0] = prescaler_ticks::<STAGES_W>(args, parent(args, PRESCALER_W), stage(args, PRESCALER_W)),
+        Call::HighS => {
+            out[0] = u64::from(prescaler_high::<STAGES_S>(args, parent(args, PRESCALER_S), stage(args, PRESCALER_S)))
+        }
+        Call::HighW => {
+            out[0] = u64::from(prescaler_high::<STAGES_W>(args, parent(args, PRESCALER_W), stage(args, PRESCALER_W)))
+        }
+        Call::ParentEdgeS => {
+            out[0] = parent_edge::<STAGES_S>(args, parent(args, PRESCALER_S), stage(args, PRESCALER_S))?
+        }
+        Call::ParentEdgeW => {
+            out[0] = parent_edge::<STAGES_W>(args, parent(args, PRESCALER_W), stage(args, PRESCALER_W))?
+        }
+        Call::DomainNew => inside::domain_new(inside::time(args, 0), args[2], args[3], out)?,
+        Call::DomainTime => put_time(inside::domain_time(args, now(args)).ok_or(TimeError::ZeroFrequency)?, out),
+        Call::DomainTicks => out[0] = inside::domain_ticks(args, now(args)).ok_or(TimeError::ZeroFrequency)?,
+        Call::TapCpu => put(&Tap::cpu(), out),
+        Call::TapSystem => put(&Tap::system(args[0] as u32), out),
+        Call::TapWatch => put(&Tap::watch(args[0] as u32), out),
+        Call::TapOnChip => put(&Tap::on_chip(args[0] as u32), out),
+        Call::TapOscillator => put(&Tap::oscillator(), out),
+        Call::TapSubclock => put(&Tap::subclock(), out),
+        Call::TapValidate => inside::tap(args).validate()?,
+        Call::FrequenciesDefault => put(&Frequencies::default(), out),
+        Call::ClocksNew => {
+            let frequencies = Frequencies { main_hz: args[2], watch_hz: args[3], on_chip_hz: args[4] };
+            inside::put_set(&Clocks::new(inside::time(args, 0), frequencies)?, out);
+        }
+        // No set is handed in where a clock holds a zero.
+        Call::ClocksHasZero => out[0] = 1,
+        Call::WaitValidate => inside::wait(args).validate()?,
+        Call::WaitUses => out[0] = u64::from(inside::wait(args).uses(inside::tap(&args[layout::WAIT..]))),
+        _ => return time::answer(call, args, out),
+    }
+    Ok(())
+}
+
+/// The calls that are handed a clock set.
+pub fn over_set(call: Call, set: &Clocks, args: &Args, out: &mut [u64]) -> Result<(), Error> {
+    let tap = || inside::tap(args);
+    let now = inside::time(args, layout::TAP);
+    match call {
+        Call::ClocksHasZero => out[0] = 0,
+        Call::ClocksTicks => out[0] = set.ticks(now, tap()),
+        Call::ClocksEdge => put_time(set.edge(args[2], tap())?, out),
+        Call::ClocksAfter => put_time(set.after(now, args[4], tap())?, out),
+        Call::ClocksAvailable => out[0] = u64::from(set.available(tap())),
+        Call::ClocksHigh => out[0] = u64::from(set.high(now, tap())),
+        Call::HalfTicks => out[0] = set.system_half_ticks(inside::time(args, 0))?,
+        Call::HalfEdge => put_time(set.system_half_edge(args[0])?, out),
+        _ => return wait::answer(call, set, args, out),
+    }
+    Ok(())
+}
+
+/// The function is private; a prescaler that has counted nothing and starts at 0 counts just the crossings.
+fn crossings<const N: usize>(args: &Args) -> u64 {
+    let mut words = [0; PRESCALER_S];
+    words[1] = args[0];
+    words[2] = 1;
+    prescaler_ticks::<N>(&words, parent(args, 1), stage(args, 1))
+}
+
+/// The stage at a place, and the count or tick behind it.
+fn stage(args: &Args, at: usize) -> u32 {
+    args[at] as u32
+}
+
+fn parent(args: &Args, at: usize) -> u64 {
+    args[at + 1]
+}
+
+fn now(args: &Args) -> Time {
+    inside::time(args, layout::DOMAIN)
+}
