@@ -51,7 +51,7 @@ impl Judge {
 
     fn expected(&self, function: &Function, words: &Set, args: &Args) -> Expected {
         match self.checked.end {
-            End::Trapped(Trap::Overflow) if before_start(function, words, args) => Expected::Plain,
+            End::Trapped(Trap::Subtract) if before_start(function, words, args) => Expected::Plain,
             End::Trapped(Trap::Overflow) => Expected::Refusal(7),
             End::Trapped(Trap::Divide) => Expected::Refusal(2),
             End::Trapped(_) => Expected::Unknown,

@@ -1,5 +1,4 @@
 //! The command line.
-use words::calls::{self, Function};
 
 pub struct Options {
     pub seed: u64,
@@ -8,14 +7,8 @@ pub struct Options {
     part: String,
 }
 
-/// Functions that are compared together.
-pub struct Part {
-    pub name: &'static str,
-    pub functions: &'static [Function],
-}
-
-const PARTS: [Part; 2] =
-    [Part { name: "time", functions: calls::TIME }, Part { name: "clocks", functions: calls::CLOCKS }];
+/// What can be compared by itself.
+const PARTS: [&str; 2] = ["time", "clocks"];
 
 pub fn read(mut words: impl Iterator<Item = String>) -> Result<Options, String> {
     let mut options = Options { seed: 1, count: 1_000_000, part: "all".to_string() };
@@ -29,8 +22,7 @@ pub fn read(mut words: impl Iterator<Item = String>) -> Result<Options, String> 
         }
     }
     if options.parts().is_empty() {
-        let names = PARTS.map(|part| part.name).join(", ");
-        return Err(format!("no part {}: all, {names}", options.part));
+        return Err(format!("no part {}: all, {}", options.part, PARTS.join(", ")));
     }
     Ok(options)
 }
@@ -40,7 +32,7 @@ fn number(text: &str) -> Result<u64, String> {
 }
 
 impl Options {
-    pub fn parts(&self) -> Vec<&'static Part> {
-        PARTS.iter().filter(|part| self.part == "all" || self.part == part.name).collect()
+    pub fn parts(&self) -> Vec<&'static str> {
+        PARTS.into_iter().filter(|part| self.part == "all" || self.part == *part).collect()
     }
 }

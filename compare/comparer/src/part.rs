@@ -1,7 +1,7 @@
 //! Compares the functions of one part.
 use crate::inputs::{self, grid};
 use crate::judge::{self, Judge, Sets};
-use crate::options::{Options, Part};
+use crate::options::Options;
 use crate::random::Random;
 use crate::report::{self, Tally};
 use crate::shrink;
@@ -20,8 +20,8 @@ struct Comparison {
 }
 
 /// Prints what was found, and returns how many differences there are.
-pub fn compare(part: &Part, options: &Options) -> u64 {
-    let functions: Vec<&Function> = part.functions.iter().collect();
+pub fn compare(name: &str, functions: &[Function], options: &Options) -> u64 {
+    let functions: Vec<&Function> = functions.iter().collect();
     let mut comparison = Comparison { judge: Judge::new(), tallies: vec![Tally::default(); functions.len()] };
     let mut random = Random::new(options.seed);
     let start = Instant::now();
@@ -39,7 +39,7 @@ pub fn compare(part: &Part, options: &Options) -> u64 {
     let calls = comparison.calls();
     println!(
         "{}: seed {}, {boundaries} calls on boundaries, {} at random, {:.1} s, {:.2} million calls a second",
-        part.name,
+        name,
         options.seed,
         calls - boundaries,
         seconds,
@@ -53,7 +53,9 @@ impl Comparison {
         self.tallies.iter().map(|tally| tally.calls).sum()
     }
 
+    /// Random calls of the functions that take anything at all.
     fn at_random(&mut self, random: &mut Random, functions: &[&Function], count: u64) {
+        let rows: Vec<usize> = (0..functions.len()).filter(|row| !functions[*row].takes.is_empty()).collect();
         let mut words = [0; layout::SET];
         let mut sets = None;
         let mut args = [0; layout::ARGS];
@@ -62,7 +64,7 @@ impl Comparison {
                 words = inputs::set(random);
                 sets = judge::sets(&words);
             }
-            let row = random.below(functions.len() as u64) as usize;
+            let row = random.pick(&rows);
             inputs::arguments(random, functions[row], &words, &mut args);
             self.call(row, functions[row], &words, &sets, &args);
         }

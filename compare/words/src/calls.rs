@@ -3,6 +3,8 @@ use crate::layout::{self, Args, Out, Set};
 
 #[derive(Clone, Copy, PartialEq, Eq, Debug)]
 pub enum Trap {
+    /// A difference below zero.
+    Subtract,
     Overflow,
     Divide,
     Index,
@@ -76,6 +78,7 @@ impl Kind {
     }
 }
 
+/// The crate calls knows each by its place in this list.
 #[derive(Clone, Copy, PartialEq, Eq, Debug)]
 pub enum Call {
     TimeBefore,

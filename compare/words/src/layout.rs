@@ -1,4 +1,4 @@
-//! Where the words of what is handed in lie. The Rattle crate `probe` reads and writes them at the same places.
+//! Where the words of what is handed in lie. The Rattle crate calls reads and writes them at the same places.
 
 pub const TIME: usize = 2;
 /// Start, numerator, denominator.

@@ -3,6 +3,7 @@ ghost use mathlib.Core.Path.{_≡_};
 ghost use Prim.Native.Nat.{_+_, _-_, _*_, _/_, _^_, _≤_, _<_, min};
 ghost use Rattle.time.specs.Time.{timeOf, timeFrom, momentOf, earlier, sameTime, sumOf, sinceOf, nextTime, midway};
 ghost use Rattle.time.specs.Clock.{edgeOf, edgesBefore, zeroIn, newClock, afterOf, edgesBeforeOf};
+ghost use Rattle.words.specs.Words.{valueOf};
 use words::Wide;
 use words::divide;
 use words::product;
@@ -168,6 +169,19 @@ impl Time {
     }
 }
 
+// The whole product of edges and denominator, without one where the denominator is 1.
+fn periods_of(edges: u64, denominator: u64) -> Wide
+    ensures { λ r. ⌜ valueOf r ≡ edges * denominator ⌝ }
+{
+    if denominator == 1 {
+        return Wide {
+            high: 0,
+            low: edges,
+        };
+    }
+    product(edges, denominator)
+}
+
 impl Clock {
     // A clock, or refusal 1 where the frequency or its denominator is zero.
     pub fn new(start: Time, numerator: u64, denominator: u64) -> NewClock
@@ -198,7 +212,7 @@ impl Clock {
         ensures { λ r. ⌜ r ≡ momentOf (edgeOf self edges) ⌝ }
     {
         let start = self.start;
-        let periods = product(edges, self.denominator);
+        let periods = periods_of(edges, self.denominator);
         if periods.high == 0 {
             let since = scaled_quotient(periods.low, self.numerator);
             return start.checked_add(Time {
@@ -210,10 +224,14 @@ impl Clock {
         if seconds.quotient.high != 0 {
             return Moment::Refused(7);
         }
-        let fraction = scaled_quotient(seconds.remainder, self.numerator);
+        let left = Wide {
+            high: seconds.remainder,
+            low: 0,
+        };
+        let fraction = divide(left, self.numerator);
         start.checked_add(Time {
             seconds: seconds.quotient.low,
-            fraction: fraction.low,
+            fraction: fraction.quotient.low,
         })
     }
 

@@ -2,10 +2,11 @@
 -- Assumes nothing.
 use mathlib.Core.Path.{_≡_, refl, sym, ap, _∙_}
 use Prim.Native.Nat.{ℕ, _+_, _-_, _*_, _/_, _%_, _^_, _≤_, _<_}
-use native.Mathlib.Nat.{zero-add, zero-mul, add-assoc, add-comm, add-left-comm, mul-assoc, mul-comm, mul-left-comm, mul-add, add-mul, mod-lt, div-add-mod', div-lt-iff-lt-mul, le-trans, le-of-eq, le-add-right, lt-of-le-of-lt, lt-of-mul-lt-mul-right, le-of-mul-le-mul-right, mul-le-mul-right, mul-le-mul-left, sub-add-cancel, add-mul-div-right, mul-div-cancel, pos-of-ne-zero, div-le-of-le-mul, div-le-self, lt-of-not-le}
+use native.Mathlib.Nat.{zero-add, zero-mul, add-assoc, add-comm, add-left-comm, mul-assoc, mul-comm, mul-left-comm, mul-right-comm, mul-add, add-mul, mod-lt, div-add-mod', div-lt-iff-lt-mul, le-trans, le-of-eq, le-add-right, lt-of-le-of-lt, lt-of-mul-lt-mul-right, le-of-mul-le-mul-right, mul-le-mul-right, mul-le-mul-left, mul-lt-mul-of-pos-right, sub-add-cancel, add-mul-div-right, mul-div-cancel, pos-of-ne-zero, div-le-of-le-mul, div-le-self, lt-of-not-le}
 use native.Mathlib.Omega.{arith}
 use lib.Pow.{pow-pos, split}
 use Rattle.words.specs.Words.{Divides}
+use Rattle.words.specs.Laws.{quotient-is}
 
 -- the machine's quotient and remainder
 pub machine : (n m : ℕ) → 0 < m → Divides n m (n / m) (n % m)
@@ -131,3 +132,19 @@ module _ (n m : ℕ) (pos : 0 < m) where
 
     pub scaled-fit : n < 2 ^ 64 → a₁ + s₁ < 2 ^ 64
     scaled-fit word = lt-of-le-of-lt (le-of-mul-le-mul-right {m = a₁ + s₁} {n = n} {k = 2 ^ 64} (le-trans (le-trans (le-add-right ((a₁ + s₁) * 2 ^ 64) s₀) (le-of-eq scaled-words)) (div-le-self (n * 2 ^ 64) m)) (pow-pos 64)) word
+
+-- The quotient of a word x by m from the reciprocal t of m: x * t makes the words e and l, and e is the quotient or one less
+module _ (x m e : ℕ) where
+  pub near : (l : ℕ) (pos : 0 < m) → x < 2 ^ 64 → l < 2 ^ 64 → e * 2 ^ 64 + l ≡ x * t x m pos → (e * m ≤ x) × (x < e * m + m + m)
+  near l pos hx hl words = (omega (arith, whole), omega (arith, whole, mul-lt-mul-of-pos-right hl pos, mul-le-mul-left x (rest-le x m pos), mul-lt-mul-of-pos-right hx pos))
+    where
+      whole : x * 2 ^ 64 ≡ x * r x m pos + (e * m * 2 ^ 64 + l * m)
+      whole =
+          parts x m pos
+          ∙ ap (λ (y : ℕ). x * r x m pos + y) (ap (λ (y : ℕ). y * m) (sym words) ∙ add-mul (e * 2 ^ 64) l m ∙ ap (λ (y : ℕ). y + l * m) (mul-right-comm e (2 ^ 64) m))
+
+  pub near-is : e * m ≤ x → x - e * m < m → e ≡ x / m
+  near-is le less = sym (quotient-is (record { whole = omega arith; less = less }))
+
+  pub near-less : (e * m ≤ x) × (x < e * m + m + m) → m ≤ x - e * m → e + 1 ≡ x / m
+  near-less both more = sym (quotient-is {r = x - e * m - m} (record { whole = omega (arith, both .0, add-mul e 1 m); less = omega (arith, both .1) }))

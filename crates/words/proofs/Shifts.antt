@@ -1,12 +1,12 @@
--- Laws of the shift that sets the divisor's top bit, which the proof of `divide_long` cites.
+-- Laws of shifts: by a power of two, and of the shift that sets a divisor's top bit. The proofs of `scaled_shift` and `divide_long` cite them.
 -- Assumes nothing.
 use mathlib.Core.Path.{_≡_, sym, ap, _∙_, subst}
 use Prim.Native.Nat.{ℕ, suc, _+_, _-_, _*_, _/_, _%_, _^_, _≤_, _<_}
-use native.Mathlib.Nat.{le-trans, le-of-eq, le-of-lt, lt-trans, add-assoc, add-comm, add-suc, suc-inj, add-mul, mul-assoc, mul-comm, mul-le-mul-right, mul-lt-mul-of-pos-right, mul-div-mul-right, div-add-mod', mod-lt, mod-eq-of-lt, sub-add-cancel}
+use native.Mathlib.Nat.{le-trans, le-of-eq, le-of-lt, lt-trans, add-assoc, add-comm, add-suc, suc-inj, add-mul, mul-assoc, mul-comm, mul-le-mul-right, mul-lt-mul-of-pos-right, mul-div-mul-right, div-add-mod', mod-lt, mod-eq-of-lt, pow-suc, sub-add-cancel}
 use native.Mathlib.Omega.{arith}
 use lib.Arith.{digits-lt}
 use lib.Count.{leadingZeros, leading-top}
-use lib.Pow.{pow-pos, pow-add, shl-lt, shr-lt, shr-shr}
+use lib.Pow.{pow-pos, pow-add, shl-lt, shl-shr, shr-lt, shr-shr}
 use Rattle.words.specs.Words.{Divides}
 use Rattle.words.proofs.Quotients.{steps, unscaled}
 
@@ -19,6 +19,20 @@ shifted-low : (l s : ℕ) → s ≤ 64 → l / 2 ^ (64 - s) * 2 ^ 64 + (l * 2 ^ 
 shifted-low l s le =
     ap (λ (x : ℕ). x * 2 ^ 64 + (l * 2 ^ s) % 2 ^ 64) (sym (ap (λ (x : ℕ). l * 2 ^ s / x) (word-split s le) ∙ mul-div-mul-right {m = 2 ^ s} l (2 ^ (64 - s)) (pow-pos s)))
     ∙ div-add-mod' (l * 2 ^ s) (2 ^ 64)
+
+-- n * 2 ^ 64 by a power of two, in words: n shifted down, and what leaves it
+pub scaled-power : (n k : ℕ) → k < 64 → n / 2 ^ k * 2 ^ 64 + ((n * 2 ^ (63 - k)) % 2 ^ 64 * 2) % 2 ^ 64 ≡ n * 2 ^ 64 / 2 ^ k
+scaled-power n k less =
+    let le : k ≤ 64 = omega arith in
+    let back : k ≡ 64 - (64 - k) = omega arith in
+    let more : 64 - k ≡ suc (63 - k) = omega arith in
+    ap (λ (x : ℕ). n / 2 ^ k * 2 ^ 64 + x) (twice (n * 2 ^ (63 - k)) ∙ ap (λ (x : ℕ). x % 2 ^ 64) (mul-assoc n (2 ^ (63 - k)) 2 ∙ ap (λ (x : ℕ). n * x) (sym (pow-suc 2 (63 - k)) ∙ ap (λ (x : ℕ). 2 ^ x) (sym more))))
+    ∙ ap (λ (x : ℕ). n / 2 ^ x * 2 ^ 64 + (n * 2 ^ (64 - k)) % 2 ^ 64) back
+    ∙ shifted-low n (64 - k) (omega arith)
+    ∙ sym (ap (λ (x : ℕ). n * x / 2 ^ k) (word-split k le) ∙ ap (λ (x : ℕ). x / 2 ^ k) (sym (mul-assoc n (2 ^ (64 - k)) (2 ^ k))) ∙ shl-shr (n * 2 ^ (64 - k)) k)
+  where
+    twice : (y : ℕ) → (y % 2 ^ 64 * 2) % 2 ^ 64 ≡ (y * 2) % 2 ^ 64
+    twice y = omega arith
 
 -- two words shifted by s
 shifted-both : (h l s : ℕ) → s ≤ 64 → (h * 2 ^ s + l / 2 ^ (64 - s)) * 2 ^ 64 + (l * 2 ^ s) % 2 ^ 64 ≡ (h * 2 ^ 64 + l) * 2 ^ s

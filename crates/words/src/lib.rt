@@ -1,6 +1,7 @@
 // Numbers of two and three 64-bit words: sums, products and quotients.
 ghost use mathlib.Core.Path.{_≡_};
 ghost use Prim.Native.Nat.{_+_, _-_, _*_, _/_, _%_, _^_, _≤_, _<_};
+ghost use lib.Count.{ones};
 ghost use Rattle.words.specs.Words.{valueOf, tripleOf, dividedOf, Divides};
 
 // A number of two words: high * 2^64 + low.
@@ -199,26 +200,57 @@ pub fn divide(n: Wide, by: u64) -> Divided
     }
 }
 
+// The quotient of a word, from the divisor's reciprocal, the quotient of 2^64 - 1: the high word of their product is the
+// quotient or one less.
+fn by_reciprocal(x: u64, reciprocal: u64, by: u64) -> u64
+    requires { ⌜ (0 < by) × (reciprocal ≡ (2 ^ 64 - 1) / by) ⌝ }
+    ensures { λ r. ⌜ r ≡ x / by ⌝ }
+{
+    let times = product(x, reciprocal);
+    let rest = x - times.high * by;
+    if rest < by {
+        return times.high;
+    }
+    times.high + 1
+}
+
 // The quotient of n * part by a word that is no smaller than the part, and so at most n.
-fn share(n: u64, part: u64, by: u64) -> u64
-    requires { ⌜ (0 < by) × (part ≤ by) ⌝ }
+fn share(n: u64, part: u64, reciprocal: u64, by: u64) -> u64
+    requires { ⌜ (0 < by) × (part ≤ by) × (reciprocal ≡ (2 ^ 64 - 1) / by) ⌝ }
     ensures { λ r. ⌜ r ≡ n * part / by ⌝ }
 {
-    if part == by {
-        return n;
+    let times = product(n, part);
+    if times.high == 0 {
+        return by_reciprocal(times.low, reciprocal, by);
     }
-    divide(product(n, part), by).quotient.low
+    divide(times, by).quotient.low
+}
+
+// The quotient of n * 2^64 by a power of two, by shifts.
+fn scaled_shift(n: u64, by: u64) -> Wide
+    requires { ⌜ ones by ≡ 1 ⌝ }
+    ensures { λ r. ⌜ valueOf r ≡ n * 2 ^ 64 / by ⌝ }
+{
+    let shift = u64::trailing_zeros(by);
+    Wide {
+        high: n >> shift,
+        low: (n << (63 - shift)) << 1,
+    }
 }
 
 // The quotient of n * 2^64 by a word, from that of 2^64; by zero, zero.
 pub fn scaled_quotient(n: u64, by: u64) -> Wide
     ensures { λ r. ⌜ valueOf r ≡ n * 2 ^ 64 / by ⌝ }
 {
+    if u64::count_ones(by) == 1 {
+        return scaled_shift(n, by);
+    }
     if by == 0 {
         return Wide { high: 0, low: 0 };
     }
-    let times = product(n, u64::MAX / by);
-    let low = sum(times.low, share(n, u64::MAX % by + 1, by));
+    let reciprocal = u64::MAX / by;
+    let times = product(n, reciprocal);
+    let low = sum(times.low, share(n, u64::MAX % by + 1, reciprocal, by));
     Wide {
         high: times.high + low.high,
         low: low.low,

@@ -10,9 +10,11 @@ use std::time::Instant;
 mod random;
 use random::Random;
 
-/// Inputs of a round, and rounds of each side, which take turns.
-const INPUTS: usize = 200_000;
-const ROUNDS: usize = 31;
+/// Inputs, those of a slice, and passes over them all. In a pass the port and the Rust take turns slice by slice, and the
+/// best time of each slice counts: what else the machine does only adds to one.
+const INPUTS: usize = 50_000;
+const SLICE: usize = 500;
+const PASSES: usize = 60;
 const DAY: u64 = 86_400;
 /// Numerator and denominator of the frequencies.
 const RATES: [(u64, u64); 3] = [(3_686_400, 1), (32_768, 8), (6_000_000_000, 1)];
@@ -27,28 +29,30 @@ extern "C" fn rust_edges_before(clock: &Clock, seconds: u64, fraction: u64) -> u
     clock.edges_before(Time::from_raw(words::layout::joined(seconds, fraction)))
 }
 
-/// Nanoseconds a call, and the sum of the answers.
-fn timed<T: Copy>(inputs: &[T], call: impl Fn(T) -> u64) -> (f64, u64) {
+/// Nanoseconds for some calls, and the sum of the answers.
+fn timed<T: Copy>(inputs: &[T], call: impl Fn(T) -> u64) -> (u128, u64) {
     let start = Instant::now();
     let mut sum = 0u64;
     for input in inputs {
         sum = sum.wrapping_add(call(black_box(*input)));
     }
-    (start.elapsed().as_nanos() as f64 / inputs.len() as f64, sum)
+    (start.elapsed().as_nanos(), sum)
 }
 
-/// The best of the port's and of the Rust's time for a call: what else the machine does only adds to one.
+/// Nanoseconds a call of the port and of the Rust.
 fn race<T: Copy>(inputs: &[T], port: impl Fn(T) -> u64, rust: impl Fn(T) -> u64) -> Result<[f64; 2], String> {
-    let mut best = [f64::INFINITY; 2];
-    for _ in 0..ROUNDS {
-        let (ours, our_sum) = timed(inputs, &port);
-        let (theirs, their_sum) = timed(inputs, &rust);
-        if our_sum != their_sum {
-            return Err(format!("the answers part: {our_sum:#x} and {their_sum:#x}"));
+    let mut best = vec![[u128::MAX; 2]; inputs.len().div_ceil(SLICE)];
+    for _ in 0..PASSES {
+        for (slice, best) in inputs.chunks(SLICE).zip(&mut best) {
+            let (ours, our_sum) = timed(slice, &port);
+            let (theirs, their_sum) = timed(slice, &rust);
+            if our_sum != their_sum {
+                return Err(format!("the answers part: {our_sum:#x} and {their_sum:#x}"));
+            }
+            *best = [best[0].min(ours), best[1].min(theirs)];
         }
-        best = [best[0].min(ours), best[1].min(theirs)];
     }
-    Ok(best)
+    Ok([0, 1].map(|side| best.iter().map(|slice| slice[side]).sum::<u128>() as f64 / inputs.len() as f64))
 }
 
 fn row(name: &str, span: &str, rate: (u64, u64), [port, rust]: [f64; 2]) {
@@ -58,7 +62,7 @@ fn row(name: &str, span: &str, rate: (u64, u64), [port, rust]: [f64; 2]) {
 
 fn run() -> Result<(), String> {
     println!(
-        "{INPUTS} random inputs, best of {ROUNDS} rounds in which the port and the Rust take turns; nanoseconds a call"
+        "nanoseconds a call, over {INPUTS} random inputs, the best of {PASSES} passes for each {SLICE} of them; port and Rust take turns"
     );
     println!("{:<20}{:>14} {:<14}{:>8}{:>8}{:>8}", "function", "Hz", "inputs", "port", "Rust", "ratio");
     let mut random = Random::new(1);

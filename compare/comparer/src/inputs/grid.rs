@@ -161,7 +161,7 @@ fn put_state(digits: &mut Digits, focus: &Focus, out: &mut [u64]) {
 }
 
 /// A set as `Clocks::new` makes it.
-fn plain_set(start: u128, [main, watch, on_chip]: [u64; 3]) -> Set {
+pub fn plain_set(start: u128, [main, watch, on_chip]: [u64; 3]) -> Set {
     let [seconds, fraction] = layout::halves(start);
     let mut set = [0; layout::SET];
     let rates = [(main, 1), (main, 1), (watch, 1), (on_chip, 1), (main, 1), (watch, 8)];

@@ -45,7 +45,9 @@ fn trap(reason: &(dyn Any + Send)) -> Trap {
         (_, Some(text)) => text.as_str(),
         _ => "",
     };
-    if text.ends_with("with overflow") {
+    if text == "attempt to subtract with overflow" {
+        Trap::Subtract
+    } else if text.ends_with("with overflow") {
         Trap::Overflow
     } else if text.contains("zero") {
         Trap::Divide

@@ -8,6 +8,14 @@ use super::time_at;
 use clocks::domain::Domain;
 use clocks::domain::NewDomain;
 
+pub(crate) fn call(number: u64, args: &[u64; 24], out: &mut [u64; 70]) {
+    match number {
+        18 => put_made(Domain::new(time_at(args, 0), args[2], args[3]), out),
+        19 => put_moment(domain_at(args).time(time_at(args, 7)), out),
+        _ => put_count(domain_at(args).ticks(time_at(args, 7)), out),
+    }
+}
+
 fn domain_at(args: &[u64; 24]) -> Domain {
     Domain {
         clock: clock_at(args),
@@ -26,20 +34,9 @@ fn put_domain(d: Domain, out: &mut [u64; 70]) {
     out[7] = d.held_at.fraction;
 }
 
-#[no_mangle]
-pub extern "C" fn probe_domain_new(args: &[u64; 24], out: &mut [u64; 70]) {
-    match Domain::new(time_at(args, 0), args[2], args[3]) {
+fn put_made(made: NewDomain, out: &mut [u64; 70]) {
+    match made {
         NewDomain::Made(d) => put_domain(d, out),
         NewDomain::Refused(n) => put_refusal(n, out),
     }
-}
-
-#[no_mangle]
-pub extern "C" fn probe_domain_time(args: &[u64; 24], out: &mut [u64; 70]) {
-    put_moment(domain_at(args).time(time_at(args, 7)), out);
-}
-
-#[no_mangle]
-pub extern "C" fn probe_domain_ticks(args: &[u64; 24], out: &mut [u64; 70]) {
-    put_count(domain_at(args).ticks(time_at(args, 7)), out);
 }

@@ -4,17 +4,32 @@ use super::prescalers::divider_of;
 use super::put_bool;
 use super::put_count;
 use super::put_moment;
-use super::put_refusal;
 use super::put_truth;
 use super::tap_at;
 use super::time_at;
 use clocks::Clocks;
-use clocks::Frequencies;
 use clocks::domain::Domain;
 use clocks::prescaler::PrescalerS;
 use clocks::prescaler::PrescalerW;
 use time::Clock;
 use time::Time;
+
+pub(crate) fn call(number: u64, set: &[u64; 69], args: &[u64; 24], out: &mut [u64; 70]) {
+    let clocks = clocks_of(set);
+    match number {
+        30 => put_bool(clocks.has_zero(), out),
+        31 => put_count(clocks.ticks(time_at(args, 2), tap_at(args, 0)), out),
+        32 => put_moment(clocks.edge(args[2], tap_at(args, 0)), out),
+        33 => put_moment(
+            clocks.after(time_at(args, 2), args[4], tap_at(args, 0)),
+            out,
+        ),
+        34 => put_truth(clocks.available(tap_at(args, 0)), out),
+        35 => put_truth(clocks.high(time_at(args, 2), tap_at(args, 0)), out),
+        36 => put_count(clocks.system_half_ticks(time_at(args, 0)), out),
+        _ => put_moment(clocks.system_half_edge(args[0]), out),
+    }
+}
 
 fn set_time(set: &[u64; 69], at: usize) -> Time
     requires { ⌜ at ≤ 67 ⌝ }
@@ -141,7 +156,7 @@ fn put_prescaler_w(p: PrescalerW, out: &mut [u64; 70]) {
     out[69] = emitted[7];
 }
 
-fn put_clocks(clocks: Clocks, out: &mut [u64; 70]) {
+pub(crate) fn put_clocks(clocks: Clocks, out: &mut [u64; 70]) {
     put_domain(clocks.system, out, 1);
     put_domain(clocks.cpu, out, 8);
     put_domain(clocks.watch, out, 15);
@@ -150,59 +165,4 @@ fn put_clocks(clocks: Clocks, out: &mut [u64; 70]) {
     put_domain(clocks.subclock, out, 36);
     put_prescaler_s(clocks.prescaler_s, out);
     put_prescaler_w(clocks.prescaler_w, out);
-}
-
-#[no_mangle]
-pub extern "C" fn probe_clocks_new(args: &[u64; 24], out: &mut [u64; 70]) {
-    let frequencies = Frequencies {
-        main_hz: args[2],
-        watch_hz: args[3],
-        on_chip_hz: args[4],
-    };
-    let made = Clocks::new(time_at(args, 0), frequencies);
-    put_clocks(made.clocks, out);
-    put_refusal(made.refusal, out);
-}
-
-#[no_mangle]
-pub extern "C" fn probe_clocks_has_zero(set: &[u64; 69], _args: &[u64; 24], out: &mut [u64; 70]) {
-    put_bool(clocks_of(set).has_zero(), out);
-}
-
-#[no_mangle]
-pub extern "C" fn probe_clocks_ticks(set: &[u64; 69], args: &[u64; 24], out: &mut [u64; 70]) {
-    put_count(clocks_of(set).ticks(time_at(args, 2), tap_at(args, 0)), out);
-}
-
-#[no_mangle]
-pub extern "C" fn probe_clocks_edge(set: &[u64; 69], args: &[u64; 24], out: &mut [u64; 70]) {
-    put_moment(clocks_of(set).edge(args[2], tap_at(args, 0)), out);
-}
-
-#[no_mangle]
-pub extern "C" fn probe_clocks_after(set: &[u64; 69], args: &[u64; 24], out: &mut [u64; 70]) {
-    put_moment(
-        clocks_of(set).after(time_at(args, 2), args[4], tap_at(args, 0)),
-        out,
-    );
-}
-
-#[no_mangle]
-pub extern "C" fn probe_clocks_available(set: &[u64; 69], args: &[u64; 24], out: &mut [u64; 70]) {
-    put_truth(clocks_of(set).available(tap_at(args, 0)), out);
-}
-
-#[no_mangle]
-pub extern "C" fn probe_clocks_high(set: &[u64; 69], args: &[u64; 24], out: &mut [u64; 70]) {
-    put_truth(clocks_of(set).high(time_at(args, 2), tap_at(args, 0)), out);
-}
-
-#[no_mangle]
-pub extern "C" fn probe_half_ticks(set: &[u64; 69], args: &[u64; 24], out: &mut [u64; 70]) {
-    put_count(clocks_of(set).system_half_ticks(time_at(args, 0)), out);
-}
-
-#[no_mangle]
-pub extern "C" fn probe_half_edge(set: &[u64; 69], args: &[u64; 24], out: &mut [u64; 70]) {
-    put_moment(clocks_of(set).system_half_edge(args[0]), out);
 }

@@ -1,0 +1,38 @@
+// The crate `time`.
+use super::clock_at;
+use super::put_bool;
+use super::put_count;
+use super::put_moment;
+use super::put_refusal;
+use super::put_time;
+use super::time_at;
+use time::Clock;
+use time::NewClock;
+
+pub(crate) fn call(number: u64, args: &[u64; 24], out: &mut [u64; 70]) {
+    match number {
+        0 => put_bool(time_at(args, 0).before(time_at(args, 2)), out),
+        1 => put_bool(time_at(args, 0).same(time_at(args, 2)), out),
+        2 => put_moment(time_at(args, 0).checked_add(time_at(args, 2)), out),
+        3 => put_moment(time_at(args, 0).duration_since(time_at(args, 2)), out),
+        4 => put_time(time_at(args, 0).next(), out),
+        5 => put_time(time_at(args, 0).midway(time_at(args, 2)), out),
+        6 => put_made(Clock::new(time_at(args, 0), args[2], args[3]), out),
+        7 => put_bool(clock_at(args).has_zero(), out),
+        8 => put_moment(clock_at(args).after(args[4]), out),
+        _ => put_count(clock_at(args).edges_before(time_at(args, 4)), out),
+    }
+}
+
+fn put_clock(c: Clock, out: &mut [u64; 70]) {
+    put_time(c.start, out);
+    out[3] = c.numerator;
+    out[4] = c.denominator;
+}
+
+fn put_made(made: NewClock, out: &mut [u64; 70]) {
+    match made {
+        NewClock::Made(c) => put_clock(c, out),
+        NewClock::Refused(n) => put_refusal(n, out),
+    }
+}

@@ -1,0 +1,146 @@
+// The port's functions on words, for the comparison with the Rust, each by a number. `compare/words/src/calls.rs` has the
+// numbers, `compare/words/src/layout.rs` says where what lies. An answer starts with the number of its refusal, 0 for none.
+ghost use Prim.Native.Nat.{_≤_};
+
+pub mod domains;
+pub mod instants;
+pub mod prescalers;
+pub mod sets;
+pub mod taps;
+pub mod waits;
+
+use clocks::Truth;
+use clocks::tap::Source;
+use clocks::tap::Tap;
+use time::Clock;
+use time::Count;
+use time::Moment;
+use time::Time;
+
+// A call, by its number.
+pub fn call(number: u64, set: &[u64; 69], args: &[u64; 24], out: &mut [u64; 70]) {
+    if number < 10 {
+        instants::call(number, args, out);
+        return;
+    }
+    if number < 18 {
+        prescalers::call(number, args, out);
+        return;
+    }
+    if number < 21 {
+        domains::call(number, args, out);
+        return;
+    }
+    if number < 30 {
+        taps::call(number, args, out);
+        return;
+    }
+    if number < 38 {
+        sets::call(number, set, args, out);
+        return;
+    }
+    waits::call(number, set, args, out);
+}
+
+fn time_at(args: &[u64; 24], at: usize) -> Time
+    requires { ⌜ at ≤ 22 ⌝ }
+{
+    Time {
+        seconds: args[at],
+        fraction: args[at + 1],
+    }
+}
+
+fn clock_at(args: &[u64; 24]) -> Clock {
+    Clock {
+        start: time_at(args, 0),
+        numerator: args[2],
+        denominator: args[3],
+    }
+}
+
+fn source_of(n: u64) -> Source {
+    match n {
+        0 => Source::System,
+        1 => Source::Cpu,
+        2 => Source::Watch,
+        3 => Source::OnChip,
+        4 => Source::Oscillator,
+        _ => Source::Subclock,
+    }
+}
+
+fn number_of(source: Source) -> u64 {
+    match source {
+        Source::System => 0,
+        Source::Cpu => 1,
+        Source::Watch => 2,
+        Source::OnChip => 3,
+        Source::Oscillator => 4,
+        Source::Subclock => 5,
+    }
+}
+
+fn half_word(n: u64) -> u32 {
+    (n % 0x1_0000_0000) as u32
+}
+
+fn tap_of(source: u64, divide: u64) -> Tap {
+    Tap {
+        source: source_of(source),
+        divide: half_word(divide),
+    }
+}
+
+fn tap_at(args: &[u64; 24], at: usize) -> Tap
+    requires { ⌜ at ≤ 22 ⌝ }
+{
+    tap_of(args[at], args[at + 1])
+}
+
+fn put_time(t: Time, out: &mut [u64; 70]) {
+    out[0] = 0;
+    out[1] = t.seconds;
+    out[2] = t.fraction;
+}
+
+fn put_moment(m: Moment, out: &mut [u64; 70]) {
+    match m {
+        Moment::At(t) => put_time(t, out),
+        Moment::Refused(n) => put_refusal(n, out),
+    }
+}
+
+fn put_count(c: Count, out: &mut [u64; 70]) {
+    match c {
+        Count::Of(n) => put_word(n, out),
+        Count::Refused(n) => put_refusal(n, out),
+    }
+}
+
+fn put_truth(t: Truth, out: &mut [u64; 70]) {
+    match t {
+        Truth::Is(b) => put_bool(b, out),
+        Truth::Refused(n) => put_refusal(n, out),
+    }
+}
+
+fn put_word(n: u64, out: &mut [u64; 70]) {
+    out[0] = 0;
+    out[1] = n;
+}
+
+fn put_bool(b: bool, out: &mut [u64; 70]) {
+    put_word(b as u64, out);
+}
+
+fn put_refusal(n: u8, out: &mut [u64; 70]) {
+    out[0] = n as u64;
+}
+
+fn put_tap(tap: Tap, out: &mut [u64; 70]) {
+    let source = tap.source;
+    out[0] = 0;
+    out[1] = number_of(source);
+    out[2] = tap.divide as u64;
+}
