@@ -1,7 +1,8 @@
 -- `clocks::tap::stage_of` meets its contract. Assumes nothing.
-use Rattle.clocks.proofs.Powers.{one-set, stage-at, stage-none}
+use Rattle.clocks.proofs.Powers.{stage-at, stage-none}
 use Rattle.clocks.proofs.tap.stage_of.Statement.{statement}
 use Rattle.clocks.specs.Tap.{stageOf}
+use Rattle.words.specs.Powers.{one-set}
 use lib.Count.{trailingZeros}
 use Rattle.clocks.proofs.tap.stage_of.Tie as tie
 
