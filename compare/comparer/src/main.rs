@@ -3,6 +3,7 @@ mod inputs;
 mod judge;
 mod options;
 mod part;
+mod peripheral;
 mod random;
 mod report;
 mod shrink;
@@ -21,8 +22,11 @@ fn main() -> ExitCode {
     std::panic::set_hook(Box::new(|_| {}));
     let mut differences = 0;
     for name in options.parts() {
-        let functions = if name == "time" { calls::TIME } else { calls::CLOCKS };
-        differences += part::compare(name, functions, &options);
+        differences += match name {
+            "time" => part::compare(name, calls::TIME, &options),
+            "clocks" => part::compare(name, calls::CLOCKS, &options),
+            _ => peripheral::compare(&options),
+        };
     }
     println!("differences: {differences}");
     ExitCode::from(u8::from(differences != 0))

@@ -8,7 +8,7 @@ pub struct Options {
 }
 
 /// What can be compared by itself.
-const PARTS: [&str; 2] = ["time", "clocks"];
+const PARTS: [&str; 3] = ["time", "clocks", "iic"];
 
 pub fn read(mut words: impl Iterator<Item = String>) -> Result<Options, String> {
     let mut options = Options { seed: 1, count: 1_000_000, part: "all".to_string() };

@@ -1,4 +1,5 @@
 //! The port, through the exported functions of the crate probe.
+pub mod iic;
 use words::calls::{Answer, Call, End};
 use words::layout::{Args, Out, Set};
 

@@ -1,5 +1,6 @@
 //! Values as words of 64 bits. Each value of a type takes the same number of words, so that a field has one place.
 pub mod calls;
+pub mod iic;
 pub mod layout;
 
 /// A value that can be written as words.

@@ -4,8 +4,10 @@ ghost use Prim.Native.Nat.{_≤_};
 
 pub mod domains;
 pub mod instants;
+pub mod peripheral;
 pub mod prescalers;
 pub mod sets;
+pub mod states;
 pub mod taps;
 pub mod waits;
 
@@ -17,7 +19,7 @@ use time::Count;
 use time::Moment;
 use time::Time;
 
-// A call, by its number.
+// A call that is no peripheral's.
 pub fn call(number: u64, set: &[u64; 69], args: &[u64; 24], out: &mut [u64; 70]) {
     if number < 10 {
         instants::call(number, args, out);

@@ -3,6 +3,11 @@ use words::layout;
 
 pub type Clock = [u64; layout::CLOCK];
 
+/// The clock of a domain.
+pub fn clock(domain: &[u64]) -> Clock {
+    core::array::from_fn(|place| domain[place])
+}
+
 /// The last time where the edge lies past it, or where the clock has none.
 pub fn edge(clock: &Clock, edges: u64) -> u128 {
     let [numerator, denominator] = [clock[2], clock[3]].map(u128::from);

@@ -1,11 +1,13 @@
 //! Inputs: at random, steered towards what is rare, and every boundary.
-mod exact;
+pub mod exact;
 mod focus;
 pub mod grid;
 mod numbers;
 mod objects;
 use crate::random::Random;
 use focus::Focus;
+pub use grid::plain_set;
+pub use numbers::{divider, start, word};
 pub use objects::set;
 use words::calls::{Function, Kind};
 use words::layout::{self, Args, Set};

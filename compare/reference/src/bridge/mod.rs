@@ -1,5 +1,6 @@
 //! Answers calls in words, and tells how a call ended: with an answer, with the number of a refusal, or in a trap.
 mod clocks;
+mod iic;
 mod time;
 mod wait;
 use crate::mcu::clocks::startup::inside;

@@ -1,0 +1,381 @@
+//! A host that uses the peripheral, on a bus with others: drivers that serve registers as a program would, other masters
+//! and slaves on the lines, and calls that nobody in his senses would make.
+use super::script::{self, Levels};
+use crate::random::Random;
+use std::collections::VecDeque;
+use words::iic::{self, Call, State};
+use words::layout::{self, Args};
+
+const TDRE: u64 = 0x80;
+const TEND: u64 = 0x40;
+const RDRF: u64 = 0x20;
+/// NACKF, STOP, AL, AAS and ADZ.
+const EVENTS: u64 = 0x1f;
+
+#[derive(Clone, Copy)]
+enum Driver {
+    Master,
+    Slave,
+    Synchronous,
+    Any,
+}
+
+#[derive(Clone, Copy, PartialEq)]
+enum Others {
+    None,
+    /// Pulls SDA, and now and then SCL, at the low phases of the clock: acknowledges, data, another master's bits,
+    /// stretching.
+    Pulling,
+    /// Another master.
+    Master,
+}
+
+pub struct Host {
+    now: u128,
+    /// About one period of the system clock.
+    period: u128,
+    driver: Driver,
+    others: Others,
+    /// How many of a hundred changes of the lines the peripheral is told of before anything else happens.
+    told: u64,
+    /// Whether times may repeat, whether they may go back, and whether a deadline may be missed.
+    repeats: bool,
+    back: bool,
+    late: bool,
+    /// How many of a hundred calls are hostile, and of the others how many are visits and how many are made by the others
+    /// on the bus.
+    hostile: u64,
+    visits: u64,
+    others_act: u64,
+    /// How many of a hundred bits that the peripheral sends somebody else sends, too.
+    contended: u64,
+    /// How many of a hundred times the program does something that breaks off what is under way, and in how many it leaves
+    /// a byte that was received.
+    meddling: u64,
+    lazy: u64,
+    /// What the others drive.
+    other: Levels,
+    script: VecDeque<Levels>,
+    setup: VecDeque<(u64, u64)>,
+    deadline: Option<u128>,
+}
+
+impl Host {
+    pub fn new(random: &mut Random, now: u128, period: u128) -> Self {
+        let driver = random.pick(&[Driver::Master, Driver::Master, Driver::Slave, Driver::Synchronous, Driver::Any]);
+        let others = match driver {
+            Driver::Master => random.pick(&[Others::Pulling, Others::Pulling, Others::None, Others::Master]),
+            Driver::Slave => random.pick(&[Others::Master, Others::Master, Others::Pulling]),
+            _ => random.pick(&[Others::None, Others::Pulling, Others::Master]),
+        };
+        let mut host = Self {
+            now,
+            period: period.max(1),
+            driver,
+            others,
+            told: random.pick(&[0, 50, 90, 99, 100]),
+            repeats: !random.once_in(3),
+            back: random.once_in(4),
+            late: random.once_in(4),
+            hostile: random.pick(&[0, 0, 0, 1, 5, 30]),
+            visits: random.pick(&[50, 75, 88]),
+            others_act: random.pick(&[4, 8, 20]),
+            contended: random.pick(&[0, 0, 0, 1, 30]),
+            meddling: random.pick(&[0, 1, 5, 100]),
+            lazy: random.pick(&[0, 50, 95]),
+            other: [true; 2],
+            script: VecDeque::new(),
+            setup: VecDeque::new(),
+            deadline: None,
+        };
+        host.set_up(random);
+        host
+    }
+
+    /// The registers that the driver writes first.
+    fn set_up(&mut self, random: &mut Random) {
+        let rate = random.pick(&[0, 0, 0, 4, 8, 12, 7, 15]);
+        let address = random.word() & 0xfe;
+        let (address, control) = match self.driver {
+            Driver::Master => (address, 0xa0 | random.pick(&[0x10, 0x10, 0, 0x40])),
+            Driver::Slave => (random.pick(&[address, address, 0]), 0x80 | random.pick(&[0, 0, 0x10])),
+            Driver::Synchronous => (address | 1, 0x80 | random.word() & 0x70),
+            Driver::Any => (random.word() & 0xff, random.word() & 0xff),
+        };
+        self.setup.extend([
+            (5, address),
+            (3, random.word() & 0xff),
+            (2, random.pick(&[0, 0, 0, 0x80, 0x40, 0xc0]) | random.below(16)),
+            (0, control | rate),
+        ]);
+        if matches!(self.driver, Driver::Master) && !random.once_in(8) {
+            self.setup.push_back((1, 0x90));
+            self.setup.push_back((6, random.word() & 0xff));
+        }
+    }
+
+    /// A host that finds the registers written.
+    pub fn over_state(random: &mut Random, now: u128, period: u128) -> Self {
+        let mut host = Self::new(random, now, period);
+        host.setup.clear();
+        host
+    }
+
+    /// Asks for the first deadline.
+    pub fn look(&mut self) -> (Call, Args) {
+        self.call(Call::Deadline, self.now, [0, 0])
+    }
+
+    /// The next call and its arguments.
+    pub fn next(&mut self, random: &mut Random, state: &State) -> (Call, Args) {
+        if random.below(100) < self.hostile {
+            return self.any_call(random, state);
+        }
+        if state[iic::GATE] == 0 && random.once_in(2) {
+            return self.at(random, Call::SetGate, [1, 0]);
+        }
+        let lines = self.lines(state);
+        let given = [state[iic::RAW] != 0, state[iic::RAW + 1] != 0];
+        if lines != given && random.below(100) < self.told {
+            let now = if self.repeats || random.once_in(2) { self.now } else { self.now.saturating_add(1) };
+            return self.call(Call::InputPins, now, lines.map(u64::from));
+        }
+        if let Some((address, value)) = self.setup.pop_front() {
+            return self.at(random, Call::Write, [address, value]);
+        }
+        if self.repeats && fell_now(state, self.now) && random.once_in(3) {
+            return self.call(Call::Read, self.now, [7, 0]);
+        }
+        match self.deadline {
+            None => self.wake(random, state),
+            // A wait that has passed never ends: off and on again.
+            Some(at) if at < self.now && random.once_in(10) => {
+                self.restart(random);
+                self.serve(random, state)
+            }
+            Some(_) => match random.below(100) {
+                n if n < self.visits => self.visit(random),
+                n if n < self.visits + self.others_act => self.others(random, state),
+                _ => self.serve(random, state),
+            },
+        }
+    }
+
+    /// Nothing is due: what keeps the peripheral from working is put right, as a rule.
+    fn wake(&mut self, random: &mut Random, state: &State) -> (Call, Args) {
+        if state[iic::RESET] != 0 && random.once_in(3) {
+            let value = random.pick(&[0x90, 0x10, 0x00, 0x50]);
+            return self.at(random, Call::Write, [1, value]);
+        }
+        let off = state[iic::CONTROL] & 0x80 == 0;
+        let stuck = off || state[iic::CONDITION] != 0;
+        let patience = if self.others == Others::Master { 500 } else { 25 };
+        if random.once_in(if stuck { 4 } else { patience }) {
+            self.restart(random);
+        }
+        if self.others == Others::Pulling && random.once_in(3) {
+            self.other = [true; 2];
+        }
+        match random.below(20) {
+            0 => self.visit(random),
+            1..=7 => self.serve(random, state),
+            _ => self.others(random, state),
+        }
+    }
+
+    /// Off and on again.
+    fn restart(&mut self, random: &mut Random) {
+        self.setup.push_back((0, 0));
+        self.set_up(random);
+    }
+
+    pub fn is_over(&self) -> bool {
+        self.now == u128::MAX
+    }
+
+    /// The next deadline, after a call.
+    pub fn saw(&mut self, deadline: Option<u128>) {
+        self.deadline = deadline;
+    }
+
+    /// The levels of the lines: low where anybody pulls.
+    fn lines(&self, state: &State) -> Levels {
+        let enabled = state[iic::CONTROL] & 0x80 != 0;
+        core::array::from_fn(|line| self.other[line] && (!enabled || state[iic::DRIVE + line] != 0))
+    }
+
+    fn call(&mut self, call: Call, now: u128, operands: [u64; 2]) -> (Call, Args) {
+        self.now = now;
+        let mut args = [0; layout::ARGS];
+        args[..2].copy_from_slice(&layout::halves(now));
+        args[2..4].copy_from_slice(&operands);
+        (call, args)
+    }
+
+    /// A call at some time from now on, mostly no later than the deadline.
+    fn at(&mut self, random: &mut Random, call: Call, operands: [u64; 2]) -> (Call, Args) {
+        let gap = self.deadline.map_or(self.period.saturating_mul(3), |at| at.saturating_sub(self.now));
+        let next = match random.below(20) {
+            0..=4 if self.repeats => self.now,
+            0..=9 => self.now.saturating_add(1),
+            10..=11 => self.now.saturating_add(gap),
+            12 => self.now.saturating_add(self.period.saturating_mul(u128::from(random.below(40)))),
+            _ => self.now.saturating_add(part(random, gap)),
+        };
+        let now = match self.deadline {
+            _ if self.back && random.once_in(20) => self.earlier(random),
+            Some(at) if !self.late && at >= self.now => next.min(at),
+            _ => next,
+        };
+        self.call(call, now, operands)
+    }
+
+    fn earlier(&mut self, random: &mut Random) -> u128 {
+        match random.below(4) {
+            0 => self.now.saturating_sub(1),
+            1 => self.now.saturating_sub(part(random, self.period)),
+            2 => self.now.saturating_sub(self.period.saturating_mul(u128::from(random.below(300)))),
+            _ => part(random, self.now),
+        }
+    }
+
+    fn visit(&mut self, random: &mut Random) -> (Call, Args) {
+        let Some(at) = self.deadline else {
+            return self.at(random, Call::Advance, [0, 0]);
+        };
+        let now = match random.below(60) {
+            0 => at.saturating_sub(1),
+            1 if self.late => at.saturating_add(1),
+            2 => self.now,
+            3 if self.back => self.earlier(random),
+            4 => return self.at(random, Call::Advance, [0, 0]),
+            _ => at,
+        };
+        // A deadline that has passed is no reason to go back, unless this host does.
+        if now < self.now && !self.back {
+            return self.at(random, Call::Advance, [0, 0]);
+        }
+        self.call(Call::Advance, now, [0, 0])
+    }
+
+    /// The others on the lines do something.
+    fn others(&mut self, random: &mut Random, state: &State) -> (Call, Args) {
+        let settled = (0..2).all(|i| state[iic::RAW + i] == state[iic::FILTERED + i]);
+        match self.others {
+            Others::None => return self.serve(random, state),
+            Others::Pulling => self.pull(random, state),
+            Others::Master if !settled && !random.once_in(12) => return self.visit(random),
+            Others::Master => self.play(random, state),
+        }
+        let lines = self.lines(state);
+        self.at(random, Call::InputPins, lines.map(u64::from))
+    }
+
+    fn pull(&mut self, random: &mut Random, state: &State) {
+        self.other[0] = !random.once_in(if self.other[0] { 12 } else { 2 });
+        if state[iic::FILTERED] != 0 && !random.once_in(400) {
+            return;
+        }
+        let [present, _, _, phase, _, transmit] = core::array::from_fn(|i| state[iic::FRAME + i]);
+        let low = match (present, phase, transmit) {
+            (1, 0, 1) => self.contended,
+            (1, 0, _) => 50,
+            (1, _, 1) => 80,
+            _ => self.contended,
+        };
+        self.other[1] = random.below(100) >= low;
+    }
+
+    fn play(&mut self, random: &mut Random, state: &State) {
+        if self.script.is_empty() {
+            let address = state[iic::ADDRESS] as u8;
+            if address & 1 != 0 && !random.once_in(6) {
+                script::clocks(random, &mut self.script);
+            } else {
+                script::transfer(random, address, &mut self.script);
+            }
+        }
+        // While somebody stretches the clock the master waits, as a rule.
+        let stretched = self.other[0] && state[iic::FILTERED] == 0 && state[iic::DRIVE] == 0;
+        if !stretched || random.once_in(20) {
+            self.other = self.script.pop_front().unwrap_or([true; 2]);
+        }
+    }
+
+    /// The program looks after the registers.
+    fn serve(&mut self, random: &mut Random, state: &State) -> (Call, Args) {
+        let status = state[iic::STATUS];
+        let byte = random.word() & 0xff;
+        if random.below(100) < self.meddling {
+            return self.meddle(random, state);
+        }
+        let (call, operands) = match random.below(20) {
+            0..=6 if status & TDRE != 0 => (Call::Write, [6, byte]),
+            0..=6 if status & RDRF != 0 && random.below(100) >= self.lazy => (Call::Read, [7, 0]),
+            7..=8 if status & TEND != 0 => (Call::Write, [1, random.pick(&[0x90, 0x10, 0x10])]),
+            9 if status & RDRF != 0 => (Call::Write, [0, state[iic::CONTROL] ^ 0x40]),
+            10..=11 if state[iic::SEEN] & status & EVENTS != 0 => (Call::Write, [4, byte & !status]),
+            10..=12 => (Call::Read, [4, 0]),
+            13 => (Call::Write, [4, random.pick(&[0, byte])]),
+            14 => (Call::Read, [7, 0]),
+            15 if self.deadline.is_none() => (Call::Write, [1, random.pick(&[0x90, 0x10])]),
+            _ if self.deadline.is_none() => (Call::Write, [6, byte]),
+            _ => return self.visit(random),
+        };
+        self.at(random, call, operands)
+    }
+
+    /// The program changes its mind.
+    fn meddle(&mut self, random: &mut Random, state: &State) -> (Call, Args) {
+        let control = state[iic::CONTROL];
+        let byte = random.word() & 0xff;
+        let (call, operands) = match random.below(12) {
+            0..=1 => (Call::Write, [1, random.pick(&[0x90, 0x10, 0x90, 0x10, 0xb0, 0x00, byte & !0x42])]),
+            2..=3 => (Call::Write, [0, control ^ random.pick(&[0x10, 0x30, 0x40, 0x20, 0x08, 0x07, 0x50])]),
+            4 => (Call::Write, [0, control & 0x7f | 0x80]),
+            5 => (Call::Write, [2, byte]),
+            6 => (Call::Write, [3, byte]),
+            7 => (Call::Write, [1, random.pick(&[0x02, 0x00])]),
+            8 => (Call::SetGate, [1 - state[iic::GATE].min(1), 0]),
+            9 if random.once_in(4) => (Call::Write, [5, random.pick(&[byte, byte & 0xfe, byte | 1])]),
+            10 => (Call::Read, [random.below(8), 0]),
+            _ => (Call::Write, [6, byte]),
+        };
+        self.at(random, call, operands)
+    }
+
+    fn any_call(&mut self, random: &mut Random, state: &State) -> (Call, Args) {
+        let address = if random.once_in(4) { random.word() & 0xffff } else { random.below(8) };
+        let byte = random.word() & 0xff;
+        match random.below(8) {
+            0 => self.at(random, Call::Read, [address, 0]),
+            1..=3 => {
+                let control = [byte, byte | 0x80, byte | 0xa0, state[iic::CONTROL]];
+                let value = if address & 7 == 0 { random.pick(&control) } else { byte };
+                self.at(random, Call::Write, [address, value])
+            }
+            4..=5 => {
+                self.other = [random.once_in(2), random.once_in(2)];
+                self.at(random, Call::InputPins, self.other.map(u64::from))
+            }
+            6 => {
+                let gate = random.below(2);
+                self.at(random, Call::SetGate, [gate, 0])
+            }
+            _ => self.visit(random),
+        }
+    }
+}
+
+fn fell_now(state: &State, now: u128) -> bool {
+    state[iic::EIGHTH_FALL] != 0 && layout::time_at(state, iic::EIGHTH_FALL + 1) == now
+}
+
+/// A part of a span, small or large.
+fn part(random: &mut Random, span: u128) -> u128 {
+    if span == 0 {
+        return 0;
+    }
+    let any = layout::joined(random.word(), random.word());
+    any % span >> random.pick(&[0, 0, 0, 1, 2, 8])
+}

@@ -1,0 +1,107 @@
+//! Runs of calls, each compared, and the smallest run that shows a difference.
+use super::machine::{Difference, Machine, Sets};
+use words::calls::End;
+use words::iic::{Call, State};
+use words::layout::{Args, Set};
+
+pub type Step = (Call, Args);
+
+/// Where a run began and what was called.
+pub struct Run {
+    pub set: Set,
+    pub state: State,
+    pub steps: Vec<Step>,
+}
+
+/// What the questions after a call were answered.
+pub struct Asked {
+    pub validated: End,
+    pub deadline_end: End,
+    /// The deadline, where there is one.
+    pub deadline: Option<u128>,
+}
+
+/// After a call: all that can be asked.
+pub fn ask(machine: &mut Machine, sets: &Sets, args: &Args) -> Result<Asked, Difference> {
+    let mut questions = *args;
+    // Any address whose bits 0 to 2 are 0, and any enables.
+    questions[2] = args[1] & 0xfff8;
+    questions[3] = args[1] >> 16 & 0xff;
+    machine.call(Call::Observe, sets, &questions)?;
+    machine.call(Call::Validate, sets, args)?;
+    let validated = machine.answer().end;
+    machine.call(Call::Deadline, sets, args)?;
+    let answer = machine.answer();
+    let known = answer.end == End::Done && answer.words[1] != 0;
+    let deadline = known.then(|| words::layout::time_at(&answer.words, 2));
+    Ok(Asked { validated, deadline_end: answer.end, deadline })
+}
+
+impl Run {
+    pub fn new(set: Set, machine: &Machine) -> Self {
+        Self { set, state: *machine.state(), steps: Vec::new() }
+    }
+
+    /// The step at which the run shows a difference, and the difference.
+    pub fn difference(&self) -> Option<(usize, Difference)> {
+        let sets = Sets::new(self.set);
+        let mut machine = Machine::new(&self.state);
+        for (place, (call, args)) in self.steps.iter().enumerate() {
+            let asked = machine.call(*call, &sets, args).and_then(|()| ask(&mut machine, &sets, args).map(|_| ()));
+            if let Err(difference) = asked {
+                return Some((place, difference));
+            }
+        }
+        None
+    }
+
+    /// Leaves out calls as long as a difference stays.
+    pub fn shorten(&mut self) {
+        while let Some((place, _)) = self.difference() {
+            self.steps.truncate(place + 1);
+            let mut length = self.steps.len() / 2;
+            let mut shorter = false;
+            while length > 0 {
+                shorter |= self.without(length);
+                length /= 2;
+            }
+            if !shorter {
+                break;
+            }
+        }
+    }
+
+    /// Leaves out pieces of that length; whether one could go.
+    fn without(&mut self, length: usize) -> bool {
+        let (mut at, mut shorter) = (0, false);
+        while at + length < self.steps.len() {
+            let rest = self.steps.split_off(at);
+            let whole = self.steps.clone();
+            self.steps.extend_from_slice(&rest[length..]);
+            if self.difference().is_some() {
+                shorter = true;
+            } else {
+                self.steps = whole;
+                self.steps.extend(rest);
+                at += length;
+            }
+        }
+        shorter
+    }
+
+    pub fn print(&self) {
+        println!("difference: the peripheral");
+        println!("  set: {}", hex(&self.set));
+        println!("  state: {}", hex(&self.state));
+        for (call, args) in &self.steps {
+            println!("  {}:{:016x} {call:?} {:x} {:x}", args[0], args[1], args[2], args[3]);
+        }
+        if let Some((_, difference)) = self.difference() {
+            println!("  {:?}: {}", difference.call, difference.what);
+        }
+    }
+}
+
+fn hex(words: &[u64]) -> String {
+    words.iter().map(|word| format!("{word:x}")).collect::<Vec<_>>().join(" ")
+}

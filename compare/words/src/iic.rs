@@ -1,0 +1,93 @@
+//! The peripheral: where the words of its state lie, which is the order of the Rust's fields, and its calls.
+use crate::calls::{Answer, Reference};
+use crate::layout::{Args, WAIT};
+
+pub const CONTROL: usize = 0;
+pub const MODE: usize = 1;
+pub const COUNT: usize = 2;
+pub const ENABLE: usize = 3;
+pub const STATUS: usize = 4;
+pub const SEEN: usize = 5;
+pub const ADDRESS: usize = 6;
+/// Behind the nine registers: busy, reset, gate.
+pub const BUSY: usize = 9;
+pub const RESET: usize = 10;
+pub const GATE: usize = 11;
+/// SCL and SDA of each: driven, given, latched, filtered.
+pub const DRIVE: usize = 12;
+pub const RAW: usize = 14;
+pub const LATCH: usize = 16;
+pub const FILTERED: usize = 18;
+/// A wait that may be absent: 0, or 1 and its words.
+pub const FILTER_WAIT: usize = 20;
+/// A half wait that may be absent: 0, or 1, its count and whether it is paused.
+pub const CLOCK_WAIT: usize = FILTER_WAIT + 1 + WAIT;
+pub const MONITOR_WAIT: usize = CLOCK_WAIT + 3;
+pub const SETUP_WAIT: usize = MONITOR_WAIT + 3;
+pub const SYNCHRONIZED_HOLD: usize = SETUP_WAIT + 1 + WAIT;
+/// 0, or 1 and the number of the condition; so the command and the hold.
+pub const CONDITION: usize = SYNCHRONIZED_HOLD + 1;
+pub const COMMAND: usize = CONDITION + 2;
+/// 0, or 1, shift, remaining, phase, address, transmit, loaded, last.
+pub const FRAME: usize = COMMAND + 2;
+pub const SELECTED: usize = FRAME + 8;
+pub const COMPLETED: usize = SELECTED + 1;
+pub const HOLD: usize = COMPLETED + 1;
+pub const RECEIVE_ENABLED: usize = HOLD + 2;
+pub const RECEIVE_STOPPED: usize = RECEIVE_ENABLED + 1;
+/// 0, or 1 and the time.
+pub const EIGHTH_FALL: usize = RECEIVE_STOPPED + 1;
+pub const STALE_RELEASE: usize = EIGHTH_FALL + 3;
+pub const STATE: usize = STALE_RELEASE + 1;
+
+pub type State = [u64; STATE];
+
+/// The arguments are the time, then the operands. The crate calls knows each by its place in this list.
+#[derive(Clone, Copy, PartialEq, Eq, Debug)]
+pub enum Call {
+    /// Address; the byte.
+    Read,
+    /// Address and byte.
+    Write,
+    /// SCL and SDA; whether the change is noticed.
+    InputPins,
+    /// Gate.
+    SetGate,
+    Advance,
+    /// 0, or 1 and the time.
+    Deadline,
+    Validate,
+    /// An address and a byte of enables; the eight registers from that address on by `peek`, `pins` (0, or 1 and the
+    /// levels), `interrupt` and `interrupt_with_enable`.
+    Observe,
+}
+
+impl Call {
+    /// How many words the call answers.
+    pub fn gives(self) -> usize {
+        match self {
+            Call::Read | Call::InputPins => 1,
+            Call::Deadline => 3,
+            Call::Observe => 13,
+            _ => 0,
+        }
+    }
+    /// Whether the call is handed a clock set.
+    pub fn takes_set(self) -> bool {
+        !matches!(self, Call::Validate | Call::Observe)
+    }
+    /// Whether it can change the state.
+    pub fn changes(self) -> bool {
+        self.takes_set() && self != Call::Deadline
+    }
+}
+
+/// The peripheral of one build of the Rust.
+pub trait Peripheral: Reference {
+    type State;
+    /// The state before the first call.
+    fn fresh() -> Self::State;
+    fn state(words: &State) -> Self::State;
+    fn words(state: &Self::State, out: &mut Vec<u64>);
+    fn call(call: Call, state: &mut Self::State, set: &Self::Set, args: &Args, out: &mut Answer);
+}

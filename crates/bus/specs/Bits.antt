@@ -1,0 +1,13 @@
+-- Definitions: masks of a byte.
+use Prim.Native.Nat.{ℕ}
+use mathlib.Core.Bool.{Bool, not, cond}
+use lib.Dec.{eqb}
+use lib.Bits.{bitAnd}
+
+-- some bit of the mask m is set in x
+abbrev pub has : ℕ → ℕ → Bool
+has x m = not (eqb (bitAnd x m) 0)
+
+-- the mask m where b holds, else nothing
+abbrev pub flag : Bool → ℕ → ℕ
+flag b m = cond b m 0

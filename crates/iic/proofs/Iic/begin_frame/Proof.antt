@@ -1,0 +1,20 @@
+use Rattle.iic.specs.Shift.{beginFrameOf}
+use borrow.Author.Needs.{needs}
+use Rattle.iic.proofs.Iic.begin_frame.Statement.{statement}
+use Rattle.iic.proofs.Iic.begin_frame.Tie as tie
+
+fresh-requires : tie.Need-fresh-requires
+fresh-requires c κs = search needs
+
+with-frame-requires : tie.Need-with-frame-requires
+with-frame-requires c κs = search needs
+
+load-transmit-requires : tie.Need-load-transmit-requires
+load-transmit-requires c κs = search needs
+
+returns : tie.Need-returns
+unfolding beginFrameOf
+returns c = simp (c .load-transmit .ensures, c .before .with-frame .ensures, c .before .before .fresh .ensures)
+
+pub begin-frame-spec : {M : Type 1} → statement M
+begin-frame-spec = tie.close (tie.spec fresh-requires with-frame-requires load-transmit-requires returns)

@@ -1,0 +1,17 @@
+use Rattle.iic.specs.Edges.{busStartOf}
+use borrow.Author.Needs.{needs}
+use Rattle.iic.proofs.Iic.bus_start.Statement.{statement}
+use Rattle.iic.proofs.Iic.bus_start.Tie as tie
+
+lose-start-requires : tie.Need-lose-start-requires
+lose-start-requires c κs = search needs
+
+begin-address-requires : tie.Need-begin-address-requires
+begin-address-requires c κs = search needs
+
+returns : tie.Need-returns
+unfolding busStartOf
+returns c = simp (c .begin-address .ensures, ← c .before .before .before .before .before .lose-start .ensures)
+
+pub bus-start-spec : {M : Type 1} → statement M
+bus-start-spec = tie.close (tie.spec lose-start-requires begin-address-requires returns)

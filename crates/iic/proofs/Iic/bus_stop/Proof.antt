@@ -1,0 +1,17 @@
+use Rattle.iic.specs.Edges.{busStopOf}
+use borrow.Author.Needs.{needs}
+use Rattle.iic.proofs.Iic.bus_stop.Statement.{statement}
+use Rattle.iic.proofs.Iic.bus_stop.Tie as tie
+
+stop-noted-requires : tie.Need-stop-noted-requires
+stop-noted-requires c κs = search needs
+
+release-sda-requires : tie.Need-release-sda-requires
+release-sda-requires c κs = search needs
+
+returns : tie.Need-returns
+unfolding busStopOf
+returns c = simp (c .release-sda .ensures, c .before .before .before .before .before .before .before .before .stop-noted .ensures)
+
+pub bus-stop-spec : {M : Type 1} → statement M
+bus-stop-spec = tie.close (tie.spec stop-noted-requires release-sda-requires returns)

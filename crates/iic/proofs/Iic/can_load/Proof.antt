@@ -1,0 +1,12 @@
+use borrow.Author.Needs.{needs}
+use Rattle.iic.proofs.Iic.can_load.Statement.{statement}
+use Rattle.iic.proofs.Iic.can_load.Tie as tie
+
+starved-requires : tie.Need-starved-requires
+starved-requires c κs = search needs
+
+returns : tie.Need-returns
+returns c = simp (c .before .starved .ensures)
+
+pub can-load-spec : {M : Type 1} → statement M
+can-load-spec = tie.close (tie.spec starved-requires returns)

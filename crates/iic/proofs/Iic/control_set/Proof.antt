@@ -1,0 +1,17 @@
+use Rattle.iic.specs.Access.{controlSet}
+use borrow.Author.Needs.{needs}
+use Rattle.iic.proofs.Iic.control_set.Statement.{statement}
+use Rattle.iic.proofs.Iic.control_set.Tie as tie
+
+flag-requires : tie.Need-flag-requires
+flag-requires c κs = search needs
+
+raise-requires : tie.Need-raise-requires
+raise-requires c κs = search needs
+
+returns : tie.Need-returns
+unfolding controlSet
+returns c = simp (c .raise .ensures, c .before .flag .ensures)
+
+pub control-set-spec : {M : Type 1} → statement M
+control-set-spec = tie.close (tie.spec flag-requires raise-requires returns)

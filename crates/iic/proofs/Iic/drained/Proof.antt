@@ -1,0 +1,17 @@
+use Rattle.iic.specs.Shift.{drainedOf}
+use borrow.Author.Needs.{needs}
+use Rattle.iic.proofs.Iic.drained.Statement.{statement}
+use Rattle.iic.proofs.Iic.drained.Tie as tie
+
+flag-requires : tie.Need-flag-requires
+flag-requires c κs = search needs
+
+raise-requires : tie.Need-raise-requires
+raise-requires c κs = search needs
+
+returns : tie.Need-returns
+unfolding drainedOf
+returns c = simp (c .raise .ensures, c .before .flag .ensures)
+
+pub drained-spec : {M : Type 1} → statement M
+drained-spec = tie.close (tie.spec flag-requires raise-requires returns)

@@ -1,0 +1,12 @@
+use borrow.Author.Needs.{needs}
+use Rattle.iic.proofs.Iic.end_with.Statement.{statement}
+use Rattle.iic.proofs.Iic.end_with.Tie as tie
+
+with-frame-requires : tie.Need-with-frame-requires
+with-frame-requires c κs = search needs
+
+returns : tie.Need-returns
+returns c = simp (c .with-frame .ensures)
+
+pub end-with-spec : {M : Type 1} → statement M
+end-with-spec = tie.close (tie.spec with-frame-requires returns)

@@ -1,0 +1,20 @@
+use Rattle.iic.specs.Access.{enterResetOf}
+use borrow.Author.Needs.{needs}
+use Rattle.iic.proofs.Iic.enter_reset.Statement.{statement}
+use Rattle.iic.proofs.Iic.enter_reset.Tie as tie
+
+stop-shifter-requires : tie.Need-stop-shifter-requires
+stop-shifter-requires c κs = search needs
+
+flag-requires : tie.Need-flag-requires
+flag-requires c κs = search needs
+
+raise-requires : tie.Need-raise-requires
+raise-requires c κs = search needs
+
+returns : tie.Need-returns
+unfolding enterResetOf
+returns c = simp (c .raise .ensures, c .before .flag .ensures, ← c .before .before .stop-shifter .ensures)
+
+pub enter-reset-spec : {M : Type 1} → statement M
+enter-reset-spec = tie.close (tie.spec stop-shifter-requires flag-requires raise-requires returns)

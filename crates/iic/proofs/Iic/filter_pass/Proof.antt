@@ -1,0 +1,20 @@
+use Rattle.iic.specs.Clocking.{filterPassOf}
+use borrow.Author.Needs.{needs}
+use Rattle.iic.proofs.Iic.filter_pass.Statement.{statement}
+use Rattle.iic.proofs.Iic.filter_pass.Tie as tie
+
+passed-requires : tie.Need-passed-requires
+passed-requires c κs = search needs
+
+passed-requires-2 : tie.Need-passed-requires-2
+passed-requires-2 c κs = search needs
+
+with-filter-wait-requires : tie.Need-with-filter-wait-requires
+with-filter-wait-requires c κs = search needs
+
+returns : tie.Need-returns
+unfolding filterPassOf
+returns c = simp (c .with-filter-wait .ensures, ← c .before .before .before .before .before .passed2 .ensures, ← c .before .before .before .before .before .before .passed .ensures)
+
+pub filter-pass-spec : {M : Type 1} → statement M
+filter-pass-spec = tie.close (tie.spec passed-requires passed-requires-2 with-filter-wait-requires returns)

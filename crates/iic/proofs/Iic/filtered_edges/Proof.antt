@@ -1,0 +1,30 @@
+use Rattle.iic.specs.Edges.{filteredEdgesOf}
+use borrow.Author.Needs.{needs}
+use Rattle.iic.proofs.Iic.filtered_edges.Statement.{statement}
+use Rattle.iic.proofs.Iic.filtered_edges.Tie as tie
+
+bus-edge-requires : tie.Need-bus-edge-requires
+bus-edge-requires c κs = search needs
+
+fine-requires : tie.Need-fine-requires
+fine-requires c κs = search needs
+
+returns : tie.Need-returns
+unfolding filteredEdgesOf
+returns c = simp (c .fine .ensures, c .before .if1 .taken, ← c .before .before .bus-edge .ensures)
+
+stretched-requires : tie.Need-stretched-requires
+stretched-requires c κs = search needs
+
+then-condition-step-requires : tie.Need-then-condition-step-requires
+then-condition-step-requires c κs = search needs
+
+then-scl-edge-requires : tie.Need-then-scl-edge-requires
+then-scl-edge-requires c κs = search needs
+
+returns-2 : tie.Need-returns-2
+unfolding filteredEdgesOf
+returns-2 c = simp (c .then-scl-edge .ensures, c .before .then-condition-step .ensures, ← c .before .before .stretched .ensures, c .before .before .before .if1 .left, ← c .before .before .before .before .bus-edge .ensures)
+
+pub filtered-edges-spec : {M : Type 1} → statement M
+filtered-edges-spec = tie.close (tie.spec bus-edge-requires fine-requires returns stretched-requires then-condition-step-requires then-scl-edge-requires returns-2)

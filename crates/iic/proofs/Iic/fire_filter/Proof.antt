@@ -1,0 +1,43 @@
+use Rattle.iic.specs.Clocking.{fireFilterOf}
+use borrow.Author.Needs.{needs}
+use Rattle.iic.proofs.Iic.fire_filter.Statement.{statement}
+use Rattle.iic.proofs.Iic.fire_filter.Tie as tie
+
+end-requires : tie.Need-end-requires
+end-requires c κs = search needs
+
+due-requires : tie.Need-due-requires
+due-requires c κs = search needs
+
+enum-told : tie.Need-enum-told
+enum-told c = search needs
+
+filter-fires-requires : tie.Need-filter-fires-requires
+filter-fires-requires c κs = search needs
+
+enum-told-2 : tie.Need-enum-told-2
+enum-told-2 c = search needs
+
+fine-requires : tie.Need-fine-requires
+fine-requires c κs = search needs
+
+enum-known-ends : tie.Need-enum-known-ends
+enum-known-ends c = search needs
+
+refused-requires : tie.Need-refused-requires
+refused-requires c κs = search needs
+
+returns : tie.Need-returns
+unfolding fireFilterOf
+returns c = simp (c .filter-fires .ensures, c .before .enum-told .given .1, ← c .before .before .before .due .ensures, ← c .before .before .before .before .end .ensures)
+
+returns-2 : tie.Need-returns-2
+unfolding fireFilterOf
+returns-2 c = simp (c .fine .ensures, c .before .enum-told2 .given .1, ← c .before .before .before .due .ensures, ← c .before .before .before .before .end .ensures)
+
+returns-3 : tie.Need-returns-3
+unfolding fireFilterOf
+returns-3 c = simp (c .refused .ensures, c .before .before .ends .given .1, ← c .before .before .before .before .due .ensures, ← c .before .before .before .before .before .end .ensures)
+
+pub fire-filter-spec : {M : Type 1} → statement M
+fire-filter-spec = tie.close (tie.spec end-requires due-requires enum-told filter-fires-requires enum-told-2 fine-requires enum-known-ends refused-requires returns returns-2 returns-3)

@@ -1,0 +1,32 @@
+use Rattle.iic.specs.Calls.{guardOf}
+use borrow.Author.Needs.{needs}
+use Rattle.iic.proofs.Iic.guard.Statement.{statement}
+use Rattle.iic.proofs.Iic.guard.Tie as tie
+
+has-zero-requires : tie.Need-has-zero-requires
+has-zero-requires c κs = search needs
+
+returns : tie.Need-returns
+unfolding guardOf
+returns c = simp (c .if1 .taken, ← c .before .has-zero .ensures)
+
+ranges-hold-requires : tie.Need-ranges-hold-requires
+ranges-hold-requires c κs = search needs
+
+returns-2 : tie.Need-returns-2
+unfolding guardOf
+returns-2 c = simp (c .if2 .taken, ← c .before .ranges-hold .ensures, c .before .before .if1 .left, ← c .before .before .before .has-zero .ensures)
+
+progress-requires : tie.Need-progress-requires
+progress-requires c κs = search needs
+
+returns-3 : tie.Need-returns-3
+unfolding guardOf
+returns-3 c = simp (c .if3 .taken, ← c .before .progress .ensures, c .before .before .if2 .left, ← c .before .before .before .ranges-hold .ensures, c .before .before .before .before .if1 .left, ← c .before .before .before .before .before .has-zero .ensures)
+
+returns-4 : tie.Need-returns-4
+unfolding guardOf
+returns-4 c = simp (c .if3 .left, ← c .before .progress .ensures, c .before .before .if2 .left, ← c .before .before .before .ranges-hold .ensures, c .before .before .before .before .if1 .left, ← c .before .before .before .before .before .has-zero .ensures)
+
+pub guard-spec : {M : Type 1} → statement M
+guard-spec = tie.close (tie.spec has-zero-requires returns ranges-hold-requires returns-2 progress-requires returns-3 returns-4)

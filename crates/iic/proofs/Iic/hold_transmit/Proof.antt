@@ -1,0 +1,21 @@
+use Rattle.iic.specs.Edges.{holdTransmitOf}
+use borrow.Author.Needs.{needs}
+use Rattle.iic.proofs.Iic.hold_transmit.Statement.{statement}
+use Rattle.iic.proofs.Iic.hold_transmit.Tie as tie
+
+unclocked-requires : tie.Need-unclocked-requires
+unclocked-requires c κs = search needs
+
+set-hold-requires : tie.Need-set-hold-requires
+set-hold-requires c κs = search needs
+
+returns : tie.Need-returns
+unfolding holdTransmitOf
+returns c = simp (c .unclocked .ensures, c .before .if1 .taken)
+
+returns-2 : tie.Need-returns-2
+unfolding holdTransmitOf
+returns-2 c = simp (c .set-hold .ensures, c .before .if1 .left)
+
+pub hold-transmit-spec : {M : Type 1} → statement M
+hold-transmit-spec = tie.close (tie.spec unclocked-requires set-hold-requires returns returns-2)

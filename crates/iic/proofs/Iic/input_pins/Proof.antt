@@ -1,0 +1,20 @@
+use Rattle.iic.specs.Calls.{inputPinsOf}
+use borrow.Author.Needs.{needs}
+use Rattle.iic.proofs.Iic.input_pins.Statement.{statement}
+use Rattle.iic.proofs.Iic.input_pins.Tie as tie
+
+observes-requires : tie.Need-observes-requires
+observes-requires c κs = search needs
+
+pins-step-requires : tie.Need-pins-step-requires
+pins-step-requires c κs = search needs
+
+noticed-requires : tie.Need-noticed-requires
+noticed-requires c κs = search needs
+
+returns : tie.Need-returns
+unfolding inputPinsOf
+returns c = simp (c .noticed .ensures, c .before .pins-step .ensures, ← c .before .before .observes .ensures)
+
+pub input-pins-spec : {M : Type 1} → statement M
+input-pins-spec = tie.close (tie.spec observes-requires pins-step-requires noticed-requires returns)

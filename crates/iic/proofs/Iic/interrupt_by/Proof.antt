@@ -1,0 +1,12 @@
+use borrow.Author.Needs.{needs}
+use Rattle.iic.proofs.Iic.interrupt_by.Statement.{statement}
+use Rattle.iic.proofs.Iic.interrupt_by.Tie as tie
+
+flag-requires : tie.Need-flag-requires
+flag-requires c κs = search needs
+
+returns : tie.Need-returns
+returns c = simp (c .before .flag .ensures)
+
+pub interrupt-by-spec : {M : Type 1} → statement M
+interrupt-by-spec = tie.close (tie.spec flag-requires returns)

@@ -1,0 +1,43 @@
+use Rattle.iic.specs.Kick.{launchOf}
+use borrow.Author.Needs.{needs}
+use Rattle.iic.proofs.Iic.launch.Statement.{statement}
+use Rattle.iic.proofs.Iic.launch.Tie as tie
+
+is-done-requires : tie.Need-is-done-requires
+is-done-requires c κs = search needs
+
+fine-requires : tie.Need-fine-requires
+fine-requires c κs = search needs
+
+returns : tie.Need-returns
+unfolding launchOf
+returns c = simp (c .fine .ensures, c .before .if1 .taken, ← c .before .before .is-done .ensures)
+
+starved-requires : tie.Need-starved-requires
+starved-requires c κs = search needs
+
+set-hold-requires : tie.Need-set-hold-requires
+set-hold-requires c κs = search needs
+
+fine-requires-2 : tie.Need-fine-requires-2
+fine-requires-2 c κs = search needs
+
+returns-2 : tie.Need-returns-2
+unfolding launchOf
+returns-2 c = simp (c .fine2 .ensures, ← c .before .set-hold .ensures, c .before .before .if2 .taken, ← c .before .before .before .starved .ensures, c .before .before .before .before .if1 .left, ← c .before .before .before .before .before .is-done .ensures)
+
+level-requires : tie.Need-level-requires
+level-requires c κs = search needs
+
+low-half-requires : tie.Need-low-half-requires
+low-half-requires c κs = search needs
+
+start-clock-requires : tie.Need-start-clock-requires
+start-clock-requires c κs = search needs
+
+returns-3 : tie.Need-returns-3
+unfolding launchOf
+returns-3 c = simp (c .start-clock .ensures, ← c .before .low-half .ensures, ← c .before .before .level .ensures, c .before .before .before .if2 .left, ← c .before .before .before .before .starved .ensures, c .before .before .before .before .before .if1 .left, ← c .before .before .before .before .before .before .is-done .ensures)
+
+pub launch-spec : {M : Type 1} → statement M
+launch-spec = tie.close (tie.spec is-done-requires fine-requires returns starved-requires set-hold-requires fine-requires-2 returns-2 level-requires low-half-requires start-clock-requires returns-3)

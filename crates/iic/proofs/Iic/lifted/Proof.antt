@@ -1,0 +1,12 @@
+use borrow.Author.Needs.{needs}
+use Rattle.iic.proofs.Iic.lifted.Statement.{statement}
+use Rattle.iic.proofs.Iic.lifted.Tie as tie
+
+fine-requires : tie.Need-fine-requires
+fine-requires c κs = search needs
+
+returns : tie.Need-returns
+returns c = simp (c .fine .ensures)
+
+pub lifted-spec : {M : Type 1} → statement M
+lifted-spec = tie.close (tie.spec fine-requires returns)

@@ -1,0 +1,24 @@
+use Rattle.iic.specs.Clocking.{monitorStepOf}
+use borrow.Author.Needs.{needs}
+use Rattle.iic.proofs.Iic.monitor_step.Statement.{statement}
+use Rattle.iic.proofs.Iic.monitor_step.Tie as tie
+
+start-monitor-requires : tie.Need-start-monitor-requires
+start-monitor-requires c κs = search needs
+
+returns : tie.Need-returns
+unfolding monitorStepOf
+returns c = simp (c .start-monitor .ensures, c .before .if1 .taken)
+
+with-monitor-wait-requires : tie.Need-with-monitor-wait-requires
+with-monitor-wait-requires c κs = search needs
+
+fine-requires : tie.Need-fine-requires
+fine-requires c κs = search needs
+
+returns-2 : tie.Need-returns-2
+unfolding monitorStepOf
+returns-2 c = simp (c .fine .ensures, c .before .with-monitor-wait .ensures, c .before .before .if1 .left)
+
+pub monitor-step-spec : {M : Type 1} → statement M
+monitor-step-spec = tie.close (tie.spec start-monitor-requires returns with-monitor-wait-requires fine-requires returns-2)

@@ -1,0 +1,17 @@
+use Rattle.iic.specs.Calls.{peekOf}
+use borrow.Author.Needs.{needs}
+use Rattle.iic.proofs.Iic.peek.Statement.{statement}
+use Rattle.iic.proofs.Iic.peek.Tie as tie
+
+at-requires : tie.Need-at-requires
+at-requires c κs = search needs
+
+peek-at-requires : tie.Need-peek-at-requires
+peek-at-requires c κs = search needs
+
+returns : tie.Need-returns
+unfolding peekOf
+returns c = simp (c .peek-at .ensures, ← c .before .at .ensures)
+
+pub peek-spec : {M : Type 1} → statement M
+peek-spec = tie.close (tie.spec at-requires peek-at-requires returns)

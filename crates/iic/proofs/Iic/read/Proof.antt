@@ -1,0 +1,20 @@
+use Rattle.iic.specs.Calls.{readOf}
+use borrow.Author.Needs.{needs}
+use Rattle.iic.proofs.Iic.read.Statement.{statement}
+use Rattle.iic.proofs.Iic.read.Tie as tie
+
+peek-requires : tie.Need-peek-requires
+peek-requires c κs = search needs
+
+read-step-requires : tie.Need-read-step-requires
+read-step-requires c κs = search needs
+
+answered-requires : tie.Need-answered-requires
+answered-requires c κs = search needs
+
+returns : tie.Need-returns
+unfolding readOf
+returns c = simp (c .answered .ensures, c .before .read-step .ensures, ← c .before .before .peek .ensures)
+
+pub read-spec : {M : Type 1} → statement M
+read-spec = tie.close (tie.spec peek-requires read-step-requires answered-requires returns)

@@ -1,0 +1,33 @@
+use Rattle.iic.specs.Access.{readDataOf}
+use borrow.Author.Needs.{needs}
+use Rattle.iic.proofs.Iic.read_data.Statement.{statement}
+use Rattle.iic.proofs.Iic.read_data.Tie as tie
+
+taken-requires : tie.Need-taken-requires
+taken-requires c κs = search needs
+
+transmit-requires : tie.Need-transmit-requires
+transmit-requires c κs = search needs
+
+fine-requires : tie.Need-fine-requires
+fine-requires c κs = search needs
+
+returns : tie.Need-returns
+unfolding readDataOf
+returns c = simp (c .fine .ensures, c .before .if1 .taken, ← c .before .before .transmit .ensures, ← c .before .before .before .taken .ensures)
+
+continued-requires : tie.Need-continued-requires
+continued-requires c κs = search needs
+
+resumed-requires : tie.Need-resumed-requires
+resumed-requires c κs = search needs
+
+then-kick-requires : tie.Need-then-kick-requires
+then-kick-requires c κs = search needs
+
+returns-2 : tie.Need-returns-2
+unfolding readDataOf
+returns-2 c = simp (c .then-kick .ensures, ← c .before .resumed .ensures, ← c .before .before .continued .ensures, c .before .before .before .if1 .left, ← c .before .before .before .before .transmit .ensures, ← c .before .before .before .before .before .taken .ensures)
+
+pub read-data-spec : {M : Type 1} → statement M
+read-data-spec = tie.close (tie.spec taken-requires transmit-requires fine-requires returns continued-requires resumed-requires then-kick-requires returns-2)

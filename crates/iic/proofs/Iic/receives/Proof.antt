@@ -1,0 +1,12 @@
+use borrow.Author.Needs.{needs}
+use Rattle.iic.proofs.Iic.receives.Statement.{statement}
+use Rattle.iic.proofs.Iic.receives.Tie as tie
+
+is-read-requires : tie.Need-is-read-requires
+is-read-requires c κs = search needs
+
+returns : tie.Need-returns
+returns c = simp (c .before .is-read .ensures)
+
+pub receives-spec : {M : Type 1} → statement M
+receives-spec = tie.close (tie.spec is-read-requires returns)

@@ -1,0 +1,20 @@
+use Rattle.iic.specs.Kick.{releaseHoldOf}
+use borrow.Author.Needs.{needs}
+use Rattle.iic.proofs.Iic.release_hold.Statement.{statement}
+use Rattle.iic.proofs.Iic.release_hold.Tie as tie
+
+with-hold-requires : tie.Need-with-hold-requires
+with-hold-requires c κs = search needs
+
+wait-after-hold-requires : tie.Need-wait-after-hold-requires
+wait-after-hold-requires c κs = search needs
+
+then-show-requires : tie.Need-then-show-requires
+then-show-requires c κs = search needs
+
+returns : tie.Need-returns
+unfolding releaseHoldOf
+returns c = simp (c .then-show .ensures, c .before .wait-after-hold .ensures, c .before .before .with-hold .ensures)
+
+pub release-hold-spec : {M : Type 1} → statement M
+release-hold-spec = tie.close (tie.spec with-hold-requires wait-after-hold-requires then-show-requires returns)

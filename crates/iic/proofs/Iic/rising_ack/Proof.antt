@@ -1,0 +1,20 @@
+use Rattle.iic.specs.Shift.{risingAckOf}
+use borrow.Author.Needs.{needs}
+use Rattle.iic.proofs.Iic.rising_ack.Statement.{statement}
+use Rattle.iic.proofs.Iic.rising_ack.Tie as tie
+
+complete-frame-requires : tie.Need-complete-frame-requires
+complete-frame-requires c κs = search needs
+
+at-requires : tie.Need-at-requires
+at-requires c κs = search needs
+
+with-frame-requires : tie.Need-with-frame-requires
+with-frame-requires c κs = search needs
+
+returns : tie.Need-returns
+unfolding risingAckOf
+returns c = simp (c .with-frame .ensures, ← c .before .at .ensures, ← c .before .before .complete-frame .ensures)
+
+pub rising-ack-spec : {M : Type 1} → statement M
+rising-ack-spec = tie.close (tie.spec complete-frame-requires at-requires with-frame-requires returns)

@@ -1,0 +1,26 @@
+use Rattle.iic.specs.Shift.{selectOf}
+use borrow.Author.Needs.{needs}
+use Rattle.iic.proofs.Iic.select.Statement.{statement}
+use Rattle.iic.proofs.Iic.select.Tie as tie
+
+is-general-call-requires : tie.Need-is-general-call-requires
+is-general-call-requires c κs = search needs
+
+is-read-requires : tie.Need-is-read-requires
+is-read-requires c κs = search needs
+
+flag-requires : tie.Need-flag-requires
+flag-requires c κs = search needs
+
+flag-requires-2 : tie.Need-flag-requires-2
+flag-requires-2 c κs = search needs
+
+flag-requires-3 : tie.Need-flag-requires-3
+flag-requires-3 c κs = search needs
+
+returns : tie.Need-returns
+unfolding selectOf
+returns c = simp (c .before .flag3 .ensures, c .before .before .before .before .flag2 .ensures, c .before .before .before .before .before .flag .ensures, ← c .before .before .before .before .before .before .before .is-read .ensures, ← c .before .before .before .before .before .before .before .before .is-general-call .ensures)
+
+pub select-spec : {M : Type 1} → statement M
+select-spec = tie.close (tie.spec is-general-call-requires is-read-requires flag-requires flag-requires-2 flag-requires-3 returns)

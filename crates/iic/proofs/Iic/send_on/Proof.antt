@@ -1,0 +1,27 @@
+use Rattle.iic.specs.Access.{sendOnOf}
+use borrow.Author.Needs.{needs}
+use Rattle.iic.proofs.Iic.send_on.Statement.{statement}
+use Rattle.iic.proofs.Iic.send_on.Tie as tie
+
+is-transmit-requires : tie.Need-is-transmit-requires
+is-transmit-requires c κs = search needs
+
+load-transmit-requires : tie.Need-load-transmit-requires
+load-transmit-requires c κs = search needs
+
+release-hold-requires : tie.Need-release-hold-requires
+release-hold-requires c κs = search needs
+
+fine-requires : tie.Need-fine-requires
+fine-requires c κs = search needs
+
+returns : tie.Need-returns
+unfolding sendOnOf
+returns c = simp (c .release-hold .ensures, ← c .before .load-transmit .ensures, c .before .before .if1 .taken, ← c .before .before .before .is-transmit .ensures)
+
+returns-2 : tie.Need-returns-2
+unfolding sendOnOf
+returns-2 c = simp (c .fine .ensures, c .before .if1 .left, ← c .before .before .is-transmit .ensures)
+
+pub send-on-spec : {M : Type 1} → statement M
+send-on-spec = tie.close (tie.spec is-transmit-requires load-transmit-requires release-hold-requires fine-requires returns returns-2)

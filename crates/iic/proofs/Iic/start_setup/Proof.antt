@@ -1,0 +1,26 @@
+use Rattle.iic.specs.Waits.{startSetupOf}
+use borrow.Author.Needs.{needs}
+use Rattle.iic.proofs.Iic.start_setup.Statement.{statement}
+use Rattle.iic.proofs.Iic.start_setup.Tie as tie
+
+setup-cycles-requires : tie.Need-setup-cycles-requires
+setup-cycles-requires c κs = search needs
+
+cast-cycles : tie.Need-cast-cycles
+cast-cycles c = search needs
+
+system-requires : tie.Need-system-requires
+system-requires c κs = search needs
+
+after-requires : tie.Need-after-requires
+after-requires c κs = search needs
+
+setup-from-requires : tie.Need-setup-from-requires
+setup-from-requires c κs = search needs
+
+returns : tie.Need-returns
+unfolding startSetupOf
+returns c = simp (c .setup-from .ensures, ← (rw (c .before .before .system .ensures) at (c .before .after .ensures)), ← c .before .before .before .setup-cycles .ensures)
+
+pub start-setup-spec : {M : Type 1} → statement M
+start-setup-spec = tie.close (tie.spec setup-cycles-requires cast-cycles system-requires after-requires setup-from-requires returns)

@@ -1,0 +1,15 @@
+use borrow.Author.Needs.{needs}
+use Rattle.iic.proofs.Iic.stop_noted.Statement.{statement}
+use Rattle.iic.proofs.Iic.stop_noted.Tie as tie
+
+flag-requires : tie.Need-flag-requires
+flag-requires c κs = search needs
+
+raise-requires : tie.Need-raise-requires
+raise-requires c κs = search needs
+
+returns : tie.Need-returns
+returns c = simp (c .raise .ensures, c .before .flag .ensures)
+
+pub stop-noted-spec : {M : Type 1} → statement M
+stop-noted-spec = tie.close (tie.spec flag-requires raise-requires returns)

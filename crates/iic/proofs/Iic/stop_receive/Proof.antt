@@ -1,0 +1,14 @@
+use Rattle.iic.specs.Access.{stopReceiveOf}
+use borrow.Author.Needs.{needs}
+use Rattle.iic.proofs.Iic.stop_receive.Statement.{statement}
+use Rattle.iic.proofs.Iic.stop_receive.Tie as tie
+
+framed-requires : tie.Need-framed-requires
+framed-requires c κs = search needs
+
+returns : tie.Need-returns
+unfolding stopReceiveOf
+returns c = simp (c .before .before .framed .ensures)
+
+pub stop-receive-spec : {M : Type 1} → statement M
+stop-receive-spec = tie.close (tie.spec framed-requires returns)

@@ -1,0 +1,15 @@
+use borrow.Author.Needs.{needs}
+use Rattle.iic.proofs.Iic.stop_released.Statement.{statement}
+use Rattle.iic.proofs.Iic.stop_released.Tie as tie
+
+with-frame-requires : tie.Need-with-frame-requires
+with-frame-requires c κs = search needs
+
+with-condition-requires : tie.Need-with-condition-requires
+with-condition-requires c κs = search needs
+
+returns : tie.Need-returns
+returns c = simp (c .with-condition .ensures, c .before .with-frame .ensures)
+
+pub stop-released-spec : {M : Type 1} → statement M
+stop-released-spec = tie.close (tie.spec with-frame-requires with-condition-requires returns)

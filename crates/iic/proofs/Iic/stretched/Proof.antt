@@ -1,0 +1,21 @@
+use Rattle.iic.specs.Edges.{stretchedOf}
+use borrow.Author.Needs.{needs}
+use Rattle.iic.proofs.Iic.stretched.Statement.{statement}
+use Rattle.iic.proofs.Iic.stretched.Tie as tie
+
+turn-clock-requires : tie.Need-turn-clock-requires
+turn-clock-requires c κs = search needs
+
+returns : tie.Need-returns
+unfolding stretchedOf
+returns c = simp (c .turn-clock .ensures, c .before .before .if1 .taken)
+
+fine-requires : tie.Need-fine-requires
+fine-requires c κs = search needs
+
+returns-2 : tie.Need-returns-2
+unfolding stretchedOf
+returns-2 c = simp (c .fine .ensures, c .before .if1 .left)
+
+pub stretched-spec : {M : Type 1} → statement M
+stretched-spec = tie.close (tie.spec turn-clock-requires returns fine-requires returns-2)

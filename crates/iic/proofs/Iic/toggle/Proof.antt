@@ -1,0 +1,33 @@
+use Rattle.iic.specs.Clocking.{toggleOf}
+use borrow.Author.Needs.{needs}
+use Rattle.iic.proofs.Iic.toggle.Statement.{statement}
+use Rattle.iic.proofs.Iic.toggle.Tie as tie
+
+master-requires : tie.Need-master-requires
+master-requires c κs = search needs
+
+held-requires : tie.Need-held-requires
+held-requires c κs = search needs
+
+drive-scl-requires : tie.Need-drive-scl-requires
+drive-scl-requires c κs = search needs
+
+start-clock-requires : tie.Need-start-clock-requires
+start-clock-requires c κs = search needs
+
+then-monitor-step-requires : tie.Need-then-monitor-step-requires
+then-monitor-step-requires c κs = search needs
+
+returns : tie.Need-returns
+unfolding toggleOf
+returns c = simp (c .then-monitor-step .ensures, c .before .start-clock .ensures, c .before .before .drive-scl .ensures, c .before .before .before .before .if1 .taken, ← c .before .before .before .before .before .held .ensures, ← c .before .before .before .before .before .before .master .ensures)
+
+fine-requires : tie.Need-fine-requires
+fine-requires c κs = search needs
+
+returns-2 : tie.Need-returns-2
+unfolding toggleOf
+returns-2 c = simp (c .fine .ensures, c .before .if1 .left, ← c .before .before .held .ensures, ← c .before .before .before .master .ensures)
+
+pub toggle-spec : {M : Type 1} → statement M
+toggle-spec = tie.close (tie.spec master-requires held-requires drive-scl-requires start-clock-requires then-monitor-step-requires returns fine-requires returns-2)

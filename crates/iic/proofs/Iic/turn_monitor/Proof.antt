@@ -1,0 +1,30 @@
+use Rattle.iic.specs.Waits.{turnMonitorOf}
+use borrow.Author.Needs.{needs}
+use Rattle.iic.proofs.Iic.turn_monitor.Statement.{statement}
+use Rattle.iic.proofs.Iic.turn_monitor.Tie as tie
+
+enum-told : tie.Need-enum-told
+enum-told c = search needs
+
+fine-requires : tie.Need-fine-requires
+fine-requires c κs = search needs
+
+enum-known-monitor-wait : tie.Need-enum-known-monitor-wait
+enum-known-monitor-wait c = search needs
+
+turn-half-requires : tie.Need-turn-half-requires
+turn-half-requires c κs = search needs
+
+monitor-from-requires : tie.Need-monitor-from-requires
+monitor-from-requires c κs = search needs
+
+returns : tie.Need-returns
+unfolding turnMonitorOf
+returns c = simp (c .fine .ensures, c .before .enum-told .given .1)
+
+returns-2 : tie.Need-returns-2
+unfolding turnMonitorOf
+returns-2 c = simp (c .monitor-from .ensures, c .before .turn-half .ensures, c .before .before .before .monitor-wait .given .1)
+
+pub turn-monitor-spec : {M : Type 1} → statement M
+turn-monitor-spec = tie.close (tie.spec enum-told fine-requires enum-known-monitor-wait turn-half-requires monitor-from-requires returns returns-2)

@@ -1,0 +1,15 @@
+use borrow.Author.Needs.{needs}
+use Rattle.iic.proofs.Stepped.answered.Statement.{statement}
+use Rattle.iic.proofs.Stepped.answered.Tie as tie
+use Rattle.iic.proofs.Stepped.answered.Reads as reads
+use Rattle.iic.proofs.Stepped.answered.Lts as lts
+use Rattle.iic.proofs.Ended.byte.Reads as byte-reads
+
+byte-requires : tie.Need-byte-requires
+byte-requires c κs = search needs
+
+returns : tie.Need-returns
+returns c = simp (c .byte .ensures)
+
+pub answered-spec : {M : Type 1} → statement M
+answered-spec = tie.close (tie.spec byte-requires returns)

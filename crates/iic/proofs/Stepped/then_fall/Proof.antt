@@ -1,0 +1,24 @@
+use borrow.Author.Needs.{needs}
+use Rattle.iic.proofs.Stepped.then_fall.Statement.{statement}
+use Rattle.iic.proofs.Stepped.then_fall.Tie as tie
+
+enum-told : tie.Need-enum-told
+enum-told c = search needs
+
+follow-requires : tie.Need-follow-requires
+follow-requires c κs = search needs
+
+fall-requires : tie.Need-fall-requires
+fall-requires c κs = search needs
+
+enum-told-2 : tie.Need-enum-told-2
+enum-told-2 c = search needs
+
+returns : tie.Need-returns
+returns c = simp (c .fall .ensures, ← c .before .follow .ensures, c .before .before .enum-told .given .1)
+
+returns-2 : tie.Need-returns-2
+returns-2 c = simp (c .enum-told2 .given .1)
+
+pub then-fall-spec : {M : Type 1} → statement M
+then-fall-spec = tie.close (tie.spec enum-told follow-requires fall-requires enum-told-2 returns returns-2)

@@ -1,0 +1,14 @@
+pub mod Bits
+pub mod Setters
+pub mod State
+pub mod Answers
+pub mod Half
+pub mod Waits
+pub mod Mirror
+pub mod Shift
+pub mod Kick
+pub mod Edges
+pub mod Clocking
+pub mod Access
+pub mod Calls
+pub mod Rows

@@ -1,0 +1,82 @@
+-- Laws: the register rows of document 01 that are starred, as one table with one fact. They begin at the default.
+use Prim.Native.Nat.{ℕ}
+use mathlib.Core.Bool.{Bool, true, false}
+use mathlib.Core.List.{List, [], _∷_, map}
+use mathlib.Core.Path.{_≡_, refl, subst, sym}
+use Rattle.bus.specs.Bits.{flag}
+use Rattle.time.specs.declared.Time.{Time}
+use Rattle.clocks.specs.declared.Clocks.{Clocks}
+use Rattle.clocks.specs.Clocks.{hasZero}
+use Rattle.iic.specs.declared.Iic.{Iic}
+use Rattle.iic.specs.declared.Pins.{Pins}
+use Rattle.iic.specs.declared.Pins.the-variants.{NoPins, Driven}
+use Rattle.iic.specs.declared.Phase.the-variants.{Data}
+use Rattle.iic.specs.declared.Framing.the-variants.{InFrame}
+use Rattle.iic.specs.Access.{registerAt, peekAt, readAt, writeAt, controlSet, redirected, takeControlOf, writeControlOf, writeModeOf, writeEnableOf, writeStatusOf, giveDataOf, sendOnOf, writeDataOf}
+use Rattle.iic.specs.Answers.{guarded}
+use Rattle.iic.specs.Calls.{guardBy, guardOf, peekOf, readOf, writeOf, pinsOf}
+use Rattle.iic.specs.Kick.{kickOf}
+use Rattle.iic.specs.Mirror.{mirrorOf, ordered}
+use Rattle.iic.specs.Setters.{setAddress, setFrame}
+use Rattle.iic.specs.Shift.{risingOf, risingDataOf, whenLostOf, lastBitOf, addressedOf, matchedOf, selectOf}
+use Rattle.iic.specs.State.{defaultIic, stopShifterOf}
+use Rattle.iic.specs.Waits.{rate, periodOf}
+
+-- what a row shows, and what document 01 has
+pub record Row : Type 0 where
+  pub shown : ℕ
+  pub expected : ℕ
+
+abbrev row : ℕ → ℕ → Row
+row n m = record { shown = n; expected = m }
+
+-- 0 where `pins` is none
+abbrev drives : Pins → ℕ
+drives NoPins = 0
+drives (Driven l) = 1
+
+-- seven bits of an address byte are in
+abbrev addressed : Iic
+addressed =
+    setAddress 0xa0 (setFrame (InFrame (record { shift = 0x50; remaining = 1; phase = Data; address = true; transmit = false; loaded = true; last = false })) defaultIic)
+
+-- the rows, by what a write of a byte and a read leave
+unfoldable pub rowsOf : (ℕ → ℕ → Iic → Iic) → (ℕ → Iic → Iic) → List Row
+rowsOf wrote saw =
+    -- default registers 0 to 7
+    row (peekOf defaultIic 0) 0x00 ∷ row (peekOf defaultIic 1) 0x7d ∷ row (peekOf defaultIic 2) 0x38 ∷ row (peekOf defaultIic 3) 0x00
+    ∷ row (peekOf defaultIic 4) 0x00 ∷ row (peekOf defaultIic 5) 0x00 ∷ row (peekOf defaultIic 6) 0xff ∷ row (peekOf defaultIic 7) 0xff
+    -- write 0 ← 10: status 80, pins none; then write 4 ← 00: 80; then read 4, write 4 ← 00: 00
+    ∷ row (peekOf (wrote 0 0x10 defaultIic) 4) 0x80
+    ∷ row (drives (pinsOf (wrote 0 0x10 defaultIic))) 0
+    ∷ row (peekOf (wrote 4 0 (wrote 0 0x10 defaultIic)) 4) 0x80
+    ∷ row (peekOf (wrote 4 0 (saw 4 (wrote 4 0 (wrote 0 0x10 defaultIic)))) 4) 0x00
+    -- write 3 ← ff reads fd; write 2 ← ff reads f8; write 2 ← 07 reads 3f; write 2 ← 80, write 6 ← 01: 6 reads 80
+    ∷ row (peekOf (wrote 3 0xff defaultIic) 3) 0xfd
+    ∷ row (peekOf (wrote 2 0xff defaultIic) 2) 0xf8
+    ∷ row (peekOf (wrote 2 0x07 defaultIic) 2) 0x3f
+    ∷ row (peekOf (wrote 6 0x01 (wrote 2 0x80 defaultIic)) 6) 0x80
+    -- half clock: 0 gives 28, 7 128, 8 56, f 256
+    ∷ row (periodOf 0x0) 28 ∷ row (periodOf 0x7) 128 ∷ row (periodOf 0x8) 56 ∷ row (periodOf 0xf) 256
+    -- SAR a0, address byte a1: selected, ICCR1 bit 4 set
+    ∷ row (flag (risingOf true addressed .flags .selected) 1) 1
+    ∷ row (risingOf true addressed .registers .control) 0x10
+    ∷ []
+
+abbrev pub AllHold : List Row → Type 0
+AllHold l = map (λ (r : Row). r .shown) l ≡ map (λ (r : Row). r .expected) l
+
+module _ (now : Time) (k : Clocks) where
+  abbrev pub rows : List Row
+  rows = rowsOf (λ a v s. writeOf s a v now k .state) (λ a s. readOf s a now k .state)
+
+  -- the same with the test for a zero clock open
+  abbrev rowsBy : Bool → List Row
+  rowsBy z =
+      rowsOf (λ a v s. guarded (guardBy z s) s (writeAt (registerAt a) v now k s) .state)
+      (λ a s. guarded (guardBy z s) s (readAt (registerAt a) now k s) .state)
+
+  -- every row shows what document 01 has, over any clock set without a zero, at any time
+  pub rows-hold : hasZero k ≡ false → AllHold rows
+  unfolding rowsOf registerAt peekAt readAt writeAt controlSet redirected takeControlOf writeControlOf writeModeOf writeEnableOf writeStatusOf giveDataOf sendOnOf writeDataOf guardOf peekOf readOf writeOf kickOf mirrorOf ordered risingOf risingDataOf whenLostOf lastBitOf addressedOf matchedOf selectOf defaultIic stopShifterOf rate periodOf
+  rows-hold free = subst (λ (z : Bool). AllHold (rowsBy z)) (sym free) refl

@@ -1,0 +1,201 @@
+-- Definitions: the shifter, from a frame's beginning to its completion. Names are those of iic.rs.
+use Prim.Native.Nat.{ℕ, _-_}
+use mathlib.Core.Bool.{Bool, true, false, not, _&&_, _||_, cond}
+use lib.Bits.{bitAnd, bitOr}
+use lib.Dec.{eqb}
+use Rattle.bus.specs.Bits.{has, flag}
+use Rattle.bus.specs.Bus.{firstBit, shiftIn, isAcknowledge, isRead, isGeneralCall}
+use Rattle.iic.specs.declared.Iic.{Iic}
+use Rattle.iic.specs.declared.Frame.{Frame}
+use Rattle.iic.specs.declared.Phase.{Phase}
+use Rattle.iic.specs.declared.Phase.the-variants.{Data, Ack, Done}
+use Rattle.iic.specs.declared.Framing.{Framing}
+use Rattle.iic.specs.declared.Framing.the-variants.{NoFrame, InFrame}
+use Rattle.iic.specs.declared.Condition.the-variants.{NoCondition}
+use Rattle.iic.specs.declared.Command.the-variants.{NoCommand}
+use Rattle.iic.specs.declared.Hold.{Hold}
+use Rattle.iic.specs.declared.Hold.the-variants.{NoHold}
+use Rattle.iic.specs.Bits.{RCVD, MST, TRS, MLS, ACKE, ACKBR, TDRE, TEND, RDRF, NACKF, AL, AAS, ADZ, SVA}
+use Rattle.iic.specs.Mirror.{ordered}
+use Rattle.iic.specs.Setters.{setFrame, setCondition, setCommand, setHold, setDrive, setControl, setCount, setEnable, setRdr, setSynchronizedHold, setSelected, setCompleted, setReceiveEnabled, setReceiveStopped}
+use Rattle.iic.specs.State.{levels, master, transmits, synchronous, raise, clearControl, driveScl, unclocked}
+
+-- ## A frame with some parts set anew
+
+abbrev pub phased : Phase → Frame → Frame
+phased p f = record { shift = f .shift; remaining = f .remaining; phase = p; address = f .address; transmit = f .transmit; loaded = f .loaded; last = f .last }
+
+-- with the byte to send
+abbrev pub filled : ℕ → Frame → Frame
+filled b f = record { shift = b; remaining = f .remaining; phase = f .phase; address = f .address; transmit = f .transmit; loaded = true; last = f .last }
+
+-- sending or receiving; a receiver's frame counts as loaded
+abbrev pub turned : Bool → Frame → Frame
+turned sends f = record { shift = f .shift; remaining = f .remaining; phase = f .phase; address = f .address; transmit = sends; loaded = f .loaded || not sends; last = f .last }
+
+-- after a lost arbitration the frame goes on as a receiver's
+abbrev pub yielded : Frame → Frame
+yielded f = record { shift = f .shift; remaining = f .remaining; phase = f .phase; address = f .address; transmit = false; loaded = true; last = f .last }
+
+-- a bit was sampled
+abbrev pub sampled : Bool → Bool → Frame → Frame
+sampled lost sda f = record { shift = shiftIn (f .shift) sda; remaining = f .remaining - 1; phase = f .phase; address = f .address; transmit = f .transmit && not lost; loaded = f .loaded; last = f .last }
+
+-- a frame that waits for its byte
+abbrev pub starved : Frame → Bool
+starved f = f .transmit && not (f .loaded)
+
+-- what a frame's data phase shows on SDA: the bit to send, or released by a receiver
+abbrev pub dataLevel : Frame → Bool
+dataLevel f = not (f .transmit) || firstBit (f .shift)
+
+-- ## `load_transmit`: ICDRT goes into a frame that waits for it, and TDRE is raised
+
+abbrev pub canLoad : Iic → Frame → Bool
+canLoad s f = starved f && not (has (s .registers .status) TDRE)
+
+abbrev pub loadIn : Framing → Iic → Iic
+loadIn NoFrame s = s
+loadIn (InFrame f) s = cond (canLoad s f) (setFrame (InFrame (filled (s .registers .tdr) f)) (raise TDRE s)) s
+
+unfoldable pub loadTransmitOf : Iic → Iic
+loadTransmitOf s = loadIn (s .frame) s
+
+-- ## `begin_frame`
+
+abbrev pub frameSends : Bool → Iic → Bool
+frameSends address s = transmits s && (master s || s .flags .selected && not address || synchronous s)
+
+-- eight bits for an address or a count of 0
+abbrev pub bitsOf : Bool → ℕ → ℕ
+bitsOf whole n = cond whole 8 n
+
+abbrev pub fresh : Bool → Iic → Frame
+fresh address s = record {
+  shift = 0;
+  remaining = bitsOf (address || eqb (s .registers .count) 0) (s .registers .count);
+  phase = Data;
+  address = address;
+  transmit = frameSends address s;
+  loaded = not (frameSends address s);
+  last = not (frameSends address s) && master s && has (s .registers .control) RCVD;
+}
+
+unfoldable pub beginFrameOf : Bool → Iic → Iic
+beginFrameOf address s = loadTransmitOf (setFrame (InFrame (fresh address s)) s)
+
+-- ## `arbitration_lost`
+
+abbrev pub yieldIn : Framing → Framing
+yieldIn NoFrame = NoFrame
+yieldIn (InFrame f) = InFrame (yielded f)
+
+unfoldable pub arbitrationLostOf : Iic → Iic
+arbitrationLostOf s =
+    raise AL (clearControl 0x30 (setDrive (levels true true) (unclocked (setSynchronizedHold false (setCondition NoCondition
+    (setCommand NoCommand (setHold NoHold (setFrame (yieldIn (s .frame)) s))))))))
+
+-- ## `set_hold`: SCL is held low, except in synchronous mode
+
+unfoldable pub setHoldOf : Hold → Iic → Iic
+setHoldOf h s = cond (synchronous s) s (setHold h (driveScl false (unclocked s)))
+
+-- ## `complete_frame`
+
+-- the ninth level in ACKBR, and NACKF where acknowledge is judged
+abbrev pub acknowledgedEnable : Bool → Iic → ℕ
+acknowledgedEnable sda s = bitOr (bitAnd (s .registers .enable) (0xff - ACKBR)) (flag sda ACKBR)
+
+unfoldable pub acknowledgedOf : Bool → Iic → Iic
+acknowledgedOf sda s =
+    cond (synchronous s) s
+    (raise (flag (not (isAcknowledge sda) && has (acknowledgedEnable sda s) ACKE) NACKF)
+    (setEnable (acknowledgedEnable sda s) s))
+
+-- nothing more to send
+unfoldable pub drainedOf : Iic → Iic
+drainedOf s = raise (flag (has (s .registers .status) TDRE) TEND) s
+
+-- document 01: a synchronous receive that ends with RDRF set
+unfoldable pub overrunOf : Iic → Iic
+overrunOf s = raise AL (clearControl MST (unclocked (driveScl true s)))
+
+unfoldable pub storedOf : ℕ → Iic → Iic
+storedOf b s = raise RDRF (setRdr (ordered (has (s .registers .mode) MLS) b) s)
+
+unfoldable pub receivedOf : ℕ → Iic → Iic
+receivedOf b s = cond (synchronous s && has (s .registers .status) RDRF) (overrunOf s) (storedOf b s)
+
+-- an address frame whose byte has bit 0 set is not stored
+abbrev pub receives : Frame → Iic → Bool
+receives f s = (master s || s .flags .selected || synchronous s) && not (f .address && isRead (f .shift))
+
+abbrev pub counted : Iic → Iic
+counted s = setCount 0 (setCompleted true s)
+
+unfoldable pub completeFrameOf : Frame → Bool → Iic → Iic
+completeFrameOf f sda s =
+    cond (f .transmit) (drainedOf (acknowledgedOf sda (counted s)))
+    (cond (receives f (counted s)) (receivedOf (f .shift) (counted s)) (counted s))
+
+-- ## `rising`
+
+-- a master's released SDA is low: another drives it
+abbrev pub loses : Frame → Bool → Iic → Bool
+loses f sda s = f .transmit && master s && s .lines .drive .sda && not sda && not (synchronous s)
+
+unfoldable pub whenLostOf : Bool → Iic → Iic
+whenLostOf lost s = cond lost (arbitrationLostOf s) s
+
+-- document 01: address match compares bits 1 to 7; the byte 00 always selects
+abbrev pub hits : ℕ → Iic → Bool
+hits b s = eqb (bitAnd b SVA) (bitAnd (s .registers .address) SVA) || isGeneralCall b
+
+-- AAS, ADZ for the byte 00, and TRS with TDRE for a read
+unfoldable pub selectOf : ℕ → Iic → Iic
+selectOf b s =
+    setControl (bitOr (bitAnd (s .registers .control) (0xff - TRS)) (flag (isRead b) TRS))
+    (raise (flag (isRead b) TDRE) (raise (flag (isGeneralCall b) ADZ) (raise AAS s)))
+
+unfoldable pub matchedOf : ℕ → Iic → Iic
+matchedOf b s = cond (hits b s) (selectOf b (setSelected true s)) (setSelected false s)
+
+-- a non-master judges an address byte
+unfoldable pub addressedOf : Frame → Iic → Iic
+addressedOf f s = cond (f .address && not (master s)) (matchedOf (f .shift) s) s
+
+-- the last byte of a synchronous receive stops the clock
+unfoldable pub finishedOf : Bool → Iic → Iic
+finishedOf last s =
+    cond last (setReceiveStopped true (setReceiveEnabled false (unclocked (driveScl true s)))) s
+
+unfoldable pub endSynchronousOf : Frame → Bool → Iic → Iic
+endSynchronousOf f sda s = setFrame (InFrame (phased Done f)) (finishedOf (f .last) (completeFrameOf f sda s))
+
+abbrev pub endBits : Frame → Bool → Iic → Iic
+endBits f sda s = cond (synchronous s) (endSynchronousOf f sda s) (setFrame (InFrame (phased Ack f)) s)
+
+unfoldable pub lastBitOf : Frame → Bool → Iic → Iic
+lastBitOf f sda s = endBits f sda (addressedOf f s)
+
+abbrev pub bitTaken : Frame → Bool → Iic → Iic
+bitTaken f sda s = cond (eqb (f .remaining) 0) (lastBitOf f sda s) (setFrame (InFrame f) s)
+
+unfoldable pub risingDataOf : Frame → Bool → Iic → Iic
+risingDataOf f sda s = bitTaken (sampled (loses f sda s) sda f) sda (whenLostOf (loses f sda s) s)
+
+unfoldable pub risingAckOf : Frame → Bool → Iic → Iic
+risingAckOf f sda s = setFrame (InFrame (phased Done f)) (completeFrameOf f sda s)
+
+abbrev pub risingAt : Phase → Frame → Bool → Iic → Iic
+risingAt Data f sda s = risingDataOf f sda s
+risingAt Ack f sda s = risingAckOf f sda s
+risingAt Done f sda s = s
+
+-- document 01: where no frame is in progress a rising clock changes nothing; nor does it for a frame that waits for its byte
+abbrev pub risingIn : Framing → Bool → Iic → Iic
+risingIn NoFrame sda s = s
+risingIn (InFrame f) sda s = cond (not (f .loaded)) s (risingAt (f .phase) f sda s)
+
+unfoldable pub risingOf : Bool → Iic → Iic
+risingOf sda s = risingIn (s .frame) sda s

@@ -1,0 +1,194 @@
+// The I2C peripheral (IIC2) of the H8/38602R: its state, its steps and the eleven calls of its host, by value.
+pub mod access;
+pub mod answers;
+pub mod bits;
+pub mod calls;
+pub mod clocking;
+pub mod edges;
+pub mod half;
+pub mod kick;
+pub mod mirror;
+pub mod shift;
+pub mod state;
+pub mod waits;
+
+use bus::Levels;
+use clocks::Truth;
+use clocks::wait::ClockWait;
+use time::Time;
+
+// A number of half clocks of the system clock: the half count at which the wait ends, or what is left of it while paused.
+pub struct HalfWait {
+    pub count: u64,
+    pub paused: bool,
+}
+
+// What a frame is at: its bits, the ninth clock, or past it.
+pub enum Phase {
+    Data,
+    Ack,
+    Done,
+}
+
+// A byte on its way.
+pub struct Frame {
+    pub shift: u8,
+    pub remaining: u8,
+    pub phase: Phase,
+    pub address: bool,
+    pub transmit: bool,
+    pub loaded: bool,
+    pub last: bool,
+}
+
+pub enum Framing {
+    NoFrame,
+    InFrame(Frame),
+}
+
+// A start or a stop that the master is about.
+pub enum Condition {
+    NoCondition,
+    StartRelease,
+    StartHigh,
+    StartHold,
+    StopLow,
+    StopHigh,
+    StopRelease,
+    StopDetect,
+}
+
+// A start (true) or a stop (false) that was asked for.
+pub enum Command {
+    NoCommand,
+    Commanded(bool),
+}
+
+// SCL held low until a register is served.
+pub enum Hold {
+    NoHold,
+    Transmit,
+    Receive,
+}
+
+pub enum EighthFall {
+    NoFall,
+    FellAt(Time),
+}
+
+pub enum MaybeWait {
+    NoWait,
+    Waiting(ClockWait),
+}
+
+pub enum MaybeHalf {
+    NoHalf,
+    Half(HalfWait),
+}
+
+pub struct Registers {
+    pub control: u8,
+    pub mode: u8,
+    pub count: u8,
+    pub enable: u8,
+    pub status: u8,
+    pub seen: u8,
+    pub address: u8,
+    pub tdr: u8,
+    pub rdr: u8,
+}
+
+// What the peripheral drives (true releases the line), the levels as given, and those that the filter saw and let through.
+pub struct Lines {
+    pub drive: Levels,
+    pub raw: Levels,
+    pub latch: Levels,
+    pub filtered: Levels,
+}
+
+pub struct Flags {
+    pub busy: bool,
+    pub reset: bool,
+    pub gate: bool,
+    pub synchronized_hold: bool,
+    pub selected: bool,
+    pub completed: bool,
+    pub receive_enabled: bool,
+    pub receive_stopped: bool,
+    pub stale_release: bool,
+}
+
+pub struct Iic {
+    pub registers: Registers,
+    pub lines: Lines,
+    pub flags: Flags,
+    pub frame: Framing,
+    pub condition: Condition,
+    pub command: Command,
+    pub hold: Hold,
+    pub eighth_fall: EighthFall,
+    pub filter_wait: MaybeWait,
+    pub clock_wait: MaybeHalf,
+    pub monitor_wait: MaybeHalf,
+    pub setup_wait: MaybeWait,
+}
+
+// How a step ended: refused by its number, or not.
+pub enum Ended {
+    Finished,
+    Refused(u8),
+}
+
+// How a step ended, and the state at that point.
+pub struct Stepped {
+    pub ended: Ended,
+    pub state: Iic,
+}
+
+// A register's byte, or the number of a refusal.
+pub enum Byte {
+    Is(u8),
+    Refused(u8),
+}
+
+pub struct ReadOut {
+    pub answer: Byte,
+    pub state: Iic,
+}
+
+// Whether a change of levels reaches the peripheral, or the number of a refusal.
+pub struct Noticed {
+    pub answer: Truth,
+    pub state: Iic,
+}
+
+// What the peripheral drives, none while it is disabled.
+pub enum Pins {
+    NoPins,
+    Driven(Levels),
+}
+
+// A half wait that was made, or the number of the refusal.
+pub enum NewHalf {
+    Made(HalfWait),
+    Refused(u8),
+}
+
+// Whether a wait ends now, or the number of the refusal of its time.
+pub enum Due {
+    Now,
+    NotNow,
+    Refused(u8),
+}
+
+// The registers, by the manual's names.
+pub enum Register {
+    ICCR1,
+    ICCR2,
+    ICMR,
+    ICIER,
+    ICSR,
+    SAR,
+    ICDRT,
+    ICDRR,
+}

@@ -1,0 +1,389 @@
+// The shifter, from a frame's beginning to its completion.
+ghost use mathlib.Core.Path.{_≡_};
+ghost use Prim.Native.Nat.{_-_};
+ghost use Rattle.iic.specs.Shift.{phased, filled, turned, yielded, sampled, starved, dataLevel, canLoad, loadTransmitOf, bitsOf, fresh, beginFrameOf, yieldIn, arbitrationLostOf, setHoldOf, acknowledgedOf, drainedOf, overrunOf, storedOf, receivedOf, receives, completeFrameOf, loses, whenLostOf, selectOf, matchedOf, addressedOf, finishedOf, endSynchronousOf, lastBitOf, risingDataOf, risingAckOf, risingOf};
+use super::Command;
+use super::Condition;
+use super::Frame;
+use super::Framing;
+use super::Hold;
+use super::Iic;
+use super::MaybeHalf;
+use super::Phase;
+use super::bits::AAS;
+use super::bits::ACKBR;
+use super::bits::ACKE;
+use super::bits::ADZ;
+use super::bits::AL;
+use super::bits::FS;
+use super::bits::MLS;
+use super::bits::MST;
+use super::bits::NACKF;
+use super::bits::RCVD;
+use super::bits::RDRF;
+use super::bits::SVA;
+use super::bits::TDRE;
+use super::bits::TEND;
+use super::bits::TRS;
+use super::mirror::ordered;
+
+// Eight bits for an address or a count of 0.
+pub(crate) fn bits_of(whole: bool, count: u8) -> u8
+    ensures { λ r. ⌜ r ≡ bitsOf whole count ⌝ }
+{
+    if whole { 8 } else { count }
+}
+
+fn fewer(n: u8) -> u8
+    ensures { λ r. ⌜ r ≡ n - 1 ⌝ }
+{
+    if n == 0 { 0 } else { n - 1 }
+}
+
+impl Frame {
+    pub(crate) fn at(self, phase: Phase) -> Frame
+        ensures { λ r. ⌜ r ≡ phased phase self ⌝ }
+    {
+        Frame { phase, ..self }
+    }
+
+    pub(crate) fn turned(mut self, sends: bool) -> Frame
+        ensures { λ r. ⌜ r ≡ turned sends self ⌝ }
+    {
+        self.transmit = sends;
+        self.loaded = self.loaded | !sends;
+        self
+    }
+
+    fn filled(mut self, byte: u8) -> Frame
+        ensures { λ r. ⌜ r ≡ filled byte self ⌝ }
+    {
+        self.shift = byte;
+        self.loaded = true;
+        self
+    }
+
+    fn yielded(mut self) -> Frame
+        ensures { λ r. ⌜ r ≡ yielded self ⌝ }
+    {
+        self.transmit = false;
+        self.loaded = true;
+        self
+    }
+
+    // A bit was sampled, and arbitration may have been lost by it.
+    fn sampled(mut self, lost: bool, sda: bool) -> Frame
+        ensures { λ r. ⌜ r ≡ sampled lost sda self ⌝ }
+    {
+        self.transmit = self.transmit & !lost;
+        self.shift = bus::shift_in(self.shift, sda);
+        self.remaining = fewer(self.remaining);
+        self
+    }
+
+    // Waits for its byte.
+    pub(crate) fn starved(self) -> bool
+        ensures { λ r. ⌜ r ≡ starved self ⌝ }
+    {
+        self.transmit & !self.loaded
+    }
+
+    // What the data phase shows on SDA.
+    pub(crate) fn data_level(self) -> bool
+        ensures { λ r. ⌜ r ≡ dataLevel self ⌝ }
+    {
+        !self.transmit | bus::first_bit(self.shift)
+    }
+}
+
+impl Framing {
+    fn yielded_in(self) -> Framing
+        ensures { λ r. ⌜ r ≡ yieldIn self ⌝ }
+    {
+        match self {
+            Framing::NoFrame => Framing::NoFrame,
+            Framing::InFrame(f) => Framing::InFrame(f.yielded()),
+        }
+    }
+}
+
+impl Iic {
+    fn can_load(self, f: Frame) -> bool
+        ensures { λ r. ⌜ r ≡ canLoad self f ⌝ }
+    {
+        f.starved() & !(self.registers.status & TDRE != 0)
+    }
+
+    // ICDRT goes into a frame that waits for it.
+    pub(crate) fn load_transmit(self) -> Iic
+        ensures { λ r. ⌜ r ≡ loadTransmitOf self ⌝ }
+    {
+        let frame = self.frame;
+        let Framing::InFrame(f) = frame else {
+            return self;
+        };
+        if self.can_load(f) {
+            let loaded = f.filled(self.registers.tdr);
+            return self.raise(TDRE).with_frame(Framing::InFrame(loaded));
+        }
+        self
+    }
+
+    fn fresh(self, address: bool) -> Frame
+        ensures { λ r. ⌜ r ≡ fresh address self ⌝ }
+    {
+        let master = self.registers.control & MST != 0;
+        let sends = (self.registers.control & TRS != 0)
+            & (master | (self.flags.selected & !address) | (self.registers.address & FS != 0));
+        let whole = address | (self.registers.count == 0);
+        Frame {
+            shift: 0,
+            remaining: bits_of(whole, self.registers.count),
+            phase: Phase::Data,
+            address,
+            transmit: sends,
+            loaded: !sends,
+            last: !sends & master & (self.registers.control & RCVD != 0),
+        }
+    }
+
+    pub(crate) fn begin_frame(self, address: bool) -> Iic
+        ensures { λ r. ⌜ r ≡ beginFrameOf address self ⌝ }
+    {
+        let f = self.fresh(address);
+        self.with_frame(Framing::InFrame(f)).load_transmit()
+    }
+
+    // Another master has the bus: the outputs are released and the frame goes on as a receiver's.
+    pub(crate) fn arbitration_lost(mut self) -> Iic
+        ensures { λ r. ⌜ r ≡ arbitrationLostOf self ⌝ }
+    {
+        let status = self.registers.status | AL;
+        self.registers.status = status;
+        let control = self.registers.control & !0x30;
+        self.registers.control = control;
+        self.lines.drive.scl = true;
+        self.lines.drive.sda = true;
+        self.flags.synchronized_hold = false;
+        let frame = self.frame;
+        Iic {
+            frame: frame.yielded_in(),
+            condition: Condition::NoCondition,
+            command: Command::NoCommand,
+            hold: Hold::NoHold,
+            clock_wait: MaybeHalf::NoHalf,
+            monitor_wait: MaybeHalf::NoHalf,
+            ..self
+        }
+    }
+
+    // SCL is held low, except in synchronous mode.
+    pub(crate) fn set_hold(self, hold: Hold) -> Iic
+        ensures { λ r. ⌜ r ≡ setHoldOf hold self ⌝ }
+    {
+        if self.synchronous() {
+            return self;
+        }
+        self.unclocked().drive_scl(false).with_hold(hold)
+    }
+
+    // The ninth level, outside synchronous mode.
+    fn acknowledged(mut self, sda: bool) -> Iic
+        ensures { λ r. ⌜ r ≡ acknowledgedOf sda self ⌝ }
+    {
+        if self.synchronous() {
+            return self;
+        }
+        let enable = (self.registers.enable & !ACKBR) | bus::flag(sda, ACKBR);
+        self.registers.enable = enable;
+        let refused = !bus::is_acknowledge(sda) & (enable & ACKE != 0);
+        let status = self.registers.status | bus::flag(refused, NACKF);
+        self.registers.status = status;
+        self
+    }
+
+    // Nothing more to send.
+    fn drained(self) -> Iic
+        ensures { λ r. ⌜ r ≡ drainedOf self ⌝ }
+    {
+        let empty = self.registers.status & TDRE != 0;
+        self.raise(bus::flag(empty, TEND))
+    }
+
+    // A synchronous receive ended with RDRF set.
+    fn overrun(mut self) -> Iic
+        ensures { λ r. ⌜ r ≡ overrunOf self ⌝ }
+    {
+        let status = self.registers.status | AL;
+        self.registers.status = status;
+        let control = self.registers.control & !MST;
+        self.registers.control = control;
+        self.lines.drive.scl = true;
+        self.unclocked()
+    }
+
+    fn stored(mut self, byte: u8) -> Iic
+        ensures { λ r. ⌜ r ≡ storedOf byte self ⌝ }
+    {
+        let low_first = self.registers.mode & MLS != 0;
+        let rdr = ordered(low_first, byte);
+        self.registers.rdr = rdr;
+        let status = self.registers.status | RDRF;
+        self.registers.status = status;
+        self
+    }
+
+    fn received(self, byte: u8) -> Iic
+        ensures { λ r. ⌜ r ≡ receivedOf byte self ⌝ }
+    {
+        let full = (self.registers.address & FS != 0) & (self.registers.status & RDRF != 0);
+        if full {
+            self.overrun()
+        } else {
+            self.stored(byte)
+        }
+    }
+
+    fn receives(self, f: Frame) -> bool
+        ensures { λ r. ⌜ r ≡ receives f self ⌝ }
+    {
+        ((self.registers.control & MST != 0)
+            | self.flags.selected
+            | (self.registers.address & FS != 0))
+            & !(f.address & bus::is_read(f.shift))
+    }
+
+    // A byte is through.
+    fn complete_frame(mut self, f: Frame, sda: bool) -> Iic
+        ensures { λ r. ⌜ r ≡ completeFrameOf f sda self ⌝ }
+    {
+        self.registers.count = 0;
+        self.flags.completed = true;
+        if f.transmit {
+            return self.acknowledged(sda).drained();
+        }
+        if self.receives(f) {
+            self.received(f.shift)
+        } else {
+            self
+        }
+    }
+
+    fn loses(self, f: Frame, sda: bool) -> bool
+        ensures { λ r. ⌜ r ≡ loses f sda self ⌝ }
+    {
+        f.transmit
+            & (self.registers.control & MST != 0)
+            & self.lines.drive.sda
+            & !sda
+            & !(self.registers.address & FS != 0)
+    }
+
+    fn when_lost(self, lost: bool) -> Iic
+        ensures { λ r. ⌜ r ≡ whenLostOf lost self ⌝ }
+    {
+        if lost { self.arbitration_lost() } else { self }
+    }
+
+    fn select(mut self, byte: u8) -> Iic
+        ensures { λ r. ⌜ r ≡ selectOf byte self ⌝ }
+    {
+        let general = bus::is_general_call(byte);
+        let read = bus::is_read(byte);
+        let status = self.registers.status | AAS | bus::flag(general, ADZ) | bus::flag(read, TDRE);
+        self.registers.status = status;
+        let control = (self.registers.control & !TRS) | bus::flag(read, TRS);
+        self.registers.control = control;
+        self
+    }
+
+    fn matched(mut self, byte: u8) -> Iic
+        ensures { λ r. ⌜ r ≡ matchedOf byte self ⌝ }
+    {
+        let hit = (byte & SVA == self.registers.address & SVA) | bus::is_general_call(byte);
+        if hit {
+            self.flags.selected = true;
+            self.select(byte)
+        } else {
+            self.flags.selected = false;
+            self
+        }
+    }
+
+    fn addressed(self, f: Frame) -> Iic
+        ensures { λ r. ⌜ r ≡ addressedOf f self ⌝ }
+    {
+        let asked = f.address & !(self.registers.control & MST != 0);
+        if asked { self.matched(f.shift) } else { self }
+    }
+
+    fn finished(mut self, last: bool) -> Iic
+        ensures { λ r. ⌜ r ≡ finishedOf last self ⌝ }
+    {
+        if last {
+            self.flags.receive_stopped = true;
+            self.flags.receive_enabled = false;
+            self.lines.drive.scl = true;
+            return self.unclocked();
+        }
+        self
+    }
+
+    fn end_synchronous(self, f: Frame, sda: bool) -> Iic
+        ensures { λ r. ⌜ r ≡ endSynchronousOf f sda self ⌝ }
+    {
+        let s = self.complete_frame(f, sda).finished(f.last);
+        s.with_frame(Framing::InFrame(f.at(Phase::Done)))
+    }
+
+    fn last_bit(self, f: Frame, sda: bool) -> Iic
+        ensures { λ r. ⌜ r ≡ lastBitOf f sda self ⌝ }
+    {
+        let s = self.addressed(f);
+        if s.synchronous() {
+            s.end_synchronous(f, sda)
+        } else {
+            s.with_frame(Framing::InFrame(f.at(Phase::Ack)))
+        }
+    }
+
+    fn rising_data(self, f: Frame, sda: bool) -> Iic
+        ensures { λ r. ⌜ r ≡ risingDataOf f sda self ⌝ }
+    {
+        let lost = self.loses(f, sda);
+        let s = self.when_lost(lost);
+        let g = f.sampled(lost, sda);
+        let ended = g.remaining == 0;
+        if ended {
+            s.last_bit(g, sda)
+        } else {
+            s.with_frame(Framing::InFrame(g))
+        }
+    }
+
+    fn rising_ack(self, f: Frame, sda: bool) -> Iic
+        ensures { λ r. ⌜ r ≡ risingAckOf f sda self ⌝ }
+    {
+        let s = self.complete_frame(f, sda);
+        s.with_frame(Framing::InFrame(f.at(Phase::Done)))
+    }
+
+    // The clock has risen: SDA is sampled.
+    pub(crate) fn rising(self, sda: bool) -> Iic
+        ensures { λ r. ⌜ r ≡ risingOf sda self ⌝ }
+    {
+        let frame = self.frame;
+        let Framing::InFrame(f) = frame else {
+            return self;
+        };
+        if !f.loaded {
+            return self;
+        }
+        let phase = f.phase;
+        match phase {
+            Phase::Data => self.rising_data(f, sda),
+            Phase::Ack => self.rising_ack(f, sda),
+            Phase::Done => self,
+        }
+    }
+}
