@@ -1,5 +1,5 @@
 -- Definitions: the registers as the host reads and writes them (document 01, Registers and steps; iic.rs, `peek`, `read_at`, `write`).
-use Prim.Native.Nat.{ℕ, zero, suc, _+_, _-_}
+use Prim.Native.Nat.{ℕ, _+_, _-_}
 use mathlib.Core.Bool.{Bool, true, false, not, _&&_, _||_, cond}
 use lib.Bits.{bitAnd, bitOr}
 use lib.Dec.{eqb}
@@ -11,21 +11,19 @@ use Rattle.iic.specs.declared.Iic.{Iic}
 use Rattle.iic.specs.declared.Stepped.{Stepped}
 use Rattle.iic.specs.declared.Register.{Register}
 use Rattle.iic.specs.declared.Register.the-variants.{ICCR1, ICCR2, ICMR, ICIER, ICSR, SAR, ICDRT, ICDRR}
-use Rattle.iic.specs.declared.Frame.{Frame}
-use Rattle.iic.specs.declared.Framing.{Framing}
-use Rattle.iic.specs.declared.Framing.the-variants.{NoFrame, InFrame}
 use Rattle.iic.specs.declared.Command.the-variants.{Commanded}
 use Rattle.iic.specs.declared.EighthFall.{EighthFall}
 use Rattle.iic.specs.declared.EighthFall.the-variants.{NoFall, FellAt}
-use Rattle.iic.specs.declared.MaybeWait.the-variants.{NoWait}
+use Rattle.waits.specs.declared.MaybeWait.the-variants.{NoWait}
 use Rattle.iic.specs.Answers.{fine, andThen}
-use Rattle.iic.specs.Bits.{RCVD, MST, TRS, BBSY, SCP, SDAO, SDAOP, SCLO, IICRST, MLS, BCWP, BC, ACKE, ACKBR, TDRE, TEND, RDRF, FS}
+use Rattle.iic.specs.Bits.{RCVD, TRS, BBSY, SCP, SDAO, SDAOP, SCLO, IICRST, MLS, BCWP, BC, ACKE, ACKBR, TDRE, TEND, RDRF, FS}
 use Rattle.iic.specs.Kick.{kickOf, releaseHoldOf}
-use Rattle.iic.specs.Mirror.{ordered}
 use Rattle.iic.specs.Setters.{setControl, setMode, setCount, setEnable, setStatus, setSeen, setAddress, setTdr, setFrame, setCommand, setBusy, setReset, setReceiveEnabled, setReceiveStopped, setStaleRelease, setFilterWait}
-use Rattle.iic.specs.Shift.{turned, bitsOf, loadTransmitOf}
-use Rattle.iic.specs.State.{enabled, master, transmits, synchronous, framed, held, isTransmitHold, isData, isDone, raise, driveSda, stopShifterOf}
-use Rattle.iic.specs.Waits.{scheduleFilterOf}
+use Rattle.iic.specs.Shift.{loadTransmitOf}
+use Rattle.iic.specs.State.{enabled, master, transmits, synchronous, framed, held, isTransmitHold, raise, driveSda, stopShifterOf}
+use Rattle.iic.specs.Waiting.{scheduleFilterOf}
+use Rattle.frames.specs.Mirror.{ordered}
+use Rattle.frames.specs.Parts.{markIn, redirectIn, recountIn, shownCount, isDoneIn}
 
 -- document 01: address bits 0 to 2 choose
 unfoldable pub registerAt : ℕ → Register
@@ -43,11 +41,6 @@ registerAt a =
 abbrev pub shownControl : Iic → ℕ
 shownControl s =
     bitOr (bitOr (bitOr (bitOr (flag (s .flags .busy) BBSY) 0x55) (flag (s .lines .drive .sda) SDAO)) (flag (s .lines .drive .scl) SCLO)) (flag (s .flags .reset) IICRST)
-
--- the bit count: what a frame has to go, else as written
-abbrev pub shownCount : Framing → ℕ → ℕ
-shownCount NoFrame n = n
-shownCount (InFrame f) n = bitAnd (f .remaining) BC
 
 unfoldable pub peekAt : Register → Iic → ℕ
 peekAt ICCR1 s = s .registers .control
@@ -70,14 +63,6 @@ unfoldable pub takenOf : Time → Iic → Iic
 takenOf now s =
     setStatus (bitAnd (s .registers .status) (0xff - RDRF)) (setSeen (bitAnd (s .registers .seen) (0xff - RDRF))
     (setStaleRelease (s .flags .«stale_release» || fellNow (s .«eighth_fall») now) s))
-
--- the byte under way is the last where RCVD is set
-abbrev pub marked : Bool → Frame → Frame
-marked last f = record { shift = f .shift; remaining = f .remaining; phase = f .phase; address = f .address; transmit = f .transmit; loaded = f .loaded; last = last }
-
-abbrev pub markIn : Framing → Bool → Framing
-markIn NoFrame last = NoFrame
-markIn (InFrame f) last = cond (isDone (f .phase) || f .address) (InFrame f) (InFrame (marked last f))
 
 unfoldable pub continuedOf : Iic → Iic
 continuedOf s =
@@ -105,21 +90,10 @@ readAt ICDRR now k s = readDataOf now k s
 
 -- ## Writing ICCR1
 
--- the direction that ICCR1 has now; a receiver's byte is the last where RCVD is written
-unfoldable pub redirectFrame : ℕ → Iic → Frame → Frame
-redirectFrame value s f =
-    marked (not (transmits s) && has value RCVD) (turned (transmits s && (master s || not (f .address))) f)
-
--- a frame's data phase follows MST and TRS while filtered SCL is low
-abbrev pub redirectIn : Framing → ℕ → Iic → Framing
-redirectIn NoFrame value s = NoFrame
-redirectIn (InFrame f) value s =
-    cond (isData (f .phase) && not (s .lines .filtered .scl)) (InFrame (redirectFrame value s f)) (InFrame f)
-
 -- MST or TRS changed
 unfoldable pub redirected : ℕ → Iic → Iic
 redirected value s =
-    setReceiveEnabled (synchronous s && not (transmits s)) (setReceiveStopped false (setFrame (redirectIn (s .frame) value s) s))
+    setReceiveEnabled (synchronous s && not (transmits s)) (setReceiveStopped false (setFrame (redirectIn (s .frame) (transmits s) (master s) (has value RCVD) (s .lines .filtered .scl)) s))
 
 -- TDRE is raised where TRS comes
 unfoldable pub controlSet : ℕ → Iic → Iic
@@ -159,10 +133,6 @@ pullSdaOf value s = cond (has value SDAOP) s (driveSda (has value SDAO) s)
 abbrev pub givesCommand : ℕ → Iic → Bool
 givesCommand value s = not (has value SCP) && master s && not (synchronous s) && enabled s
 
-abbrev pub isDoneIn : Framing → Bool
-isDoneIn NoFrame = false
-isDoneIn (InFrame f) = isDone (f .phase)
-
 -- iic.rs, A023: with ACKE a stop before the ninth falling edge is lost
 abbrev pub earlyStop : ℕ → Iic → Bool
 earlyStop value s =
@@ -182,13 +152,6 @@ writeResetOf value now k s =
     (cond (s .flags .reset) (fine (setReset false s)) (writeCommandOf value now k s))
 
 -- ## Writing the others
-
-abbrev pub recounted : ℕ → Frame → Frame
-recounted n f = record { shift = f .shift; remaining = bitsOf (eqb n 0) n; phase = f .phase; address = f .address; transmit = f .transmit; loaded = f .loaded; last = f .last }
-
-abbrev pub recountIn : Framing → ℕ → Framing
-recountIn NoFrame n = NoFrame
-recountIn (InFrame f) n = cond (isData (f .phase) && not (f .address)) (InFrame (recounted n f)) (InFrame f)
 
 -- the bit count is written where BCWP is 0
 unfoldable pub writeModeOf : ℕ → Iic → Iic

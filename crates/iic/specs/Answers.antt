@@ -1,6 +1,6 @@
 -- Definitions: how steps end and what calls answer. A refusal has document 01's number; nothing is rolled back.
 use Prim.Native.Nat.{ℕ}
-use mathlib.Core.Bool.{Bool, true, false, cond}
+use mathlib.Core.Bool.{Bool, cond}
 use lib.Dec.{eqb}
 use Rattle.clocks.specs.declared.Truth.{Truth}
 use Rattle.clocks.specs.declared.Truth.the-variants as truth

@@ -1,5 +1,5 @@
 -- Definitions: the eleven calls. Each decides the answer and the whole next state, refused or not (document 01, demand 2).
-use Prim.Native.Nat.{ℕ, _-_, _^_}
+use Prim.Native.Nat.{ℕ}
 use mathlib.Core.Bool.{Bool, true, false, not, _&&_, _||_, cond, Bool·beq}
 use lib.Bits.{bitAnd, bitOr}
 use lib.Dec.{eqb, ltb}
@@ -12,23 +12,14 @@ use Rattle.clocks.specs.declared.Clocks.{Clocks}
 use Rattle.clocks.specs.declared.wait.Deadline.{Deadline}
 use Rattle.clocks.specs.declared.wait.Deadline.the-variants as deadline
 use Rattle.clocks.specs.Clocks.{hasZero}
-use Rattle.clocks.specs.Wait.{waitValidate}
 use Rattle.iic.specs.declared.Iic.{Iic}
 use Rattle.iic.specs.declared.Stepped.{Stepped}
 use Rattle.iic.specs.declared.ReadOut.{ReadOut}
 use Rattle.iic.specs.declared.Noticed.{Noticed}
 use Rattle.iic.specs.declared.Pins.{Pins}
 use Rattle.iic.specs.declared.Pins.the-variants.{NoPins, Driven}
-use Rattle.iic.specs.declared.Phase.{Phase}
-use Rattle.iic.specs.declared.Phase.the-variants.{Data, Ack, Done}
-use Rattle.iic.specs.declared.Framing.{Framing}
-use Rattle.iic.specs.declared.Framing.the-variants.{NoFrame, InFrame}
 use Rattle.iic.specs.declared.EighthFall.{EighthFall}
 use Rattle.iic.specs.declared.EighthFall.the-variants.{NoFall, FellAt}
-use Rattle.iic.specs.declared.MaybeWait.{MaybeWait}
-use Rattle.iic.specs.declared.MaybeWait.the-variants.{NoWait, Waiting}
-use Rattle.iic.specs.declared.MaybeHalf.{MaybeHalf}
-use Rattle.iic.specs.declared.MaybeHalf.the-variants.{NoHalf, Half}
 use Rattle.iic.specs.Access.{registerAt, peekAt, readAt, writeAt}
 use Rattle.iic.specs.Answers.{fine, guarded, andThen, answered, noticed}
 use Rattle.iic.specs.Bits.{NAKIE, NACKF, STOP, AL}
@@ -36,23 +27,15 @@ use Rattle.iic.specs.Clocking.{fireFilterOf, fireSetupOf, fireMonitorOf,
 use Rattle.iic.specs.Kick.{kickOf}
 use Rattle.iic.specs.Setters.{setRaw, setGate}
 use Rattle.iic.specs.State.{levels, enabled, awake, synchronous}
-use Rattle.iic.specs.Waits.{scheduleFilterOf, turnClockOf, turnMonitorOf, turnFilterOf, turnSetupOf, waitEnd, halfEnd, sooner}
+use Rattle.iic.specs.Waiting.{scheduleFilterOf, turnClockOf, turnMonitorOf, turnFilterOf, turnSetupOf}
+use Rattle.waits.specs.Ends.{waitEnd, halfEnd, sooner, tapOf, shortHalf}
+use Rattle.frames.specs.Parts.{progressIn}
 
 -- ## Refusals that stand before a call: 1, then 9, then 10, with the state unchanged; 0 for none
 
 -- document 01, 9: a count above 7, or mode bits outside c0
 abbrev pub rangesHold : Iic → Bool
 rangesHold s = ltb (s .registers .count) 8 && eqb (bitAnd (s .registers .mode) 0x3f) 0
-
-abbrev pub progressAt : Phase → ℕ → Bool
-progressAt Data n = ltb 0 n && ltb n 9
-progressAt Ack n = eqb n 0
-progressAt Done n = eqb n 0
-
--- document 01, 10: a frame in its data phase without 1 to 8 bits to go, or in another phase with any
-abbrev pub progressIn : Framing → Bool
-progressIn NoFrame = true
-progressIn (InFrame f) = progressAt (f .phase) (f .remaining)
 
 abbrev pub progressHolds : Iic → Bool
 progressHolds s = progressIn (s .frame)
@@ -156,15 +139,6 @@ interruptWithEnableOf s retained = interruptBy s (bitOr (s .registers .enable) r
 abbrev pub fellBy : EighthFall → Time → Bool
 fellBy NoFall now = true
 fellBy (FellAt t) now = not (earlier now t)
-
-abbrev pub tapOf : MaybeWait → ℕ
-tapOf NoWait = 0
-tapOf (Waiting w) = waitValidate w
-
--- document 01, 12: a half count within 1023 of the top
-abbrev pub shortHalf : MaybeHalf → Bool
-shortHalf NoHalf = true
-shortHalf (Half w) = ltb (w .count) (2 ^ 64 - 1024)
 
 abbrev pub halvesRefusal : Iic → ℕ
 halvesRefusal s = cond (shortHalf (s .«clock_wait») && shortHalf (s .«monitor_wait»)) 0 12

@@ -1,23 +1,22 @@
 -- Definitions: what each of the four waits brings when it fires: the filter, the setup, the monitor, the clock (`clock_step` of iic.rs).
-use Prim.Native.Nat.{ℕ}
-use mathlib.Core.Bool.{Bool, true, false, not, _&&_, _||_, cond, Bool·beq}
-use Rattle.bus.specs.declared.Levels.{Levels}
+use mathlib.Core.Bool.{Bool, true, false, not, _&&_, cond, Bool·beq}
 use Rattle.time.specs.declared.Time.{Time}
 use Rattle.clocks.specs.declared.Clocks.{Clocks}
 use Rattle.iic.specs.declared.Iic.{Iic}
 use Rattle.iic.specs.declared.Stepped.{Stepped}
-use Rattle.iic.specs.declared.Framing.the-variants.{NoFrame}
+use Rattle.frames.specs.declared.Framing.the-variants.{NoFrame}
 use Rattle.iic.specs.declared.Condition.{Condition}
 use Rattle.iic.specs.declared.Condition.the-variants.{NoCondition, StartRelease, StartHigh, StartHold, StopLow, StopHigh, StopRelease, StopDetect}
-use Rattle.iic.specs.declared.MaybeWait.the-variants.{NoWait}
-use Rattle.iic.specs.declared.MaybeHalf.the-variants.{NoHalf}
-use Rattle.iic.specs.declared.Due.{Due}
-use Rattle.iic.specs.declared.Due.the-variants as due
+use Rattle.waits.specs.declared.MaybeWait.the-variants.{NoWait}
+use Rattle.waits.specs.declared.MaybeHalf.the-variants.{NoHalf}
+use Rattle.waits.specs.declared.Due.{Due}
+use Rattle.waits.specs.declared.Due.the-variants as due
 use Rattle.iic.specs.Answers.{fine, refused, andThen}
 use Rattle.iic.specs.Edges.{filteredEdgesOf}
 use Rattle.iic.specs.Setters.{setFrame, setCondition, setLatch, setFiltered, setSynchronizedHold, setReceiveEnabled, setFilterWait, setClockWait, setMonitorWait, setSetupWait}
 use Rattle.iic.specs.State.{levels, master, held, driveScl, driveSda}
-use Rattle.iic.specs.Waits.{startClockOf, startMonitorOf, scheduleFilterOf, turnClockOf, waitEnd, halfEnd, dueOf}
+use Rattle.iic.specs.Waiting.{startClockOf, startMonitorOf, scheduleFilterOf, turnClockOf}
+use Rattle.waits.specs.Ends.{waitEnd, halfEnd, dueOf}
 
 -- ## `clock_step`
 

@@ -1,35 +1,34 @@
 -- Definitions: what filtered levels bring: starts and stops of the bus, the falling clock, and `filtered_edges` of iic.rs.
-use Prim.Native.Nat.{ℕ, _*_}
+use Prim.Native.Nat.{_*_}
 use mathlib.Core.Bool.{Bool, true, false, not, _&&_, _||_, cond}
 use Rattle.bus.specs.declared.Levels.{Levels}
 use Rattle.bus.specs.Bits.{has, flag}
 use Rattle.bus.specs.Bus.{isStart, isStop}
 use Rattle.time.specs.declared.Time.{Time}
-use Rattle.time.specs.declared.Count.{Count}
-use Rattle.time.specs.declared.Count.the-variants as count
 use Rattle.clocks.specs.declared.Clocks.{Clocks}
 use Rattle.iic.specs.declared.Iic.{Iic}
 use Rattle.iic.specs.declared.Stepped.{Stepped}
-use Rattle.iic.specs.declared.HalfWait.{HalfWait}
-use Rattle.iic.specs.declared.Frame.{Frame}
-use Rattle.iic.specs.declared.Phase.{Phase}
-use Rattle.iic.specs.declared.Phase.the-variants.{Data, Ack, Done}
-use Rattle.iic.specs.declared.Framing.{Framing}
-use Rattle.iic.specs.declared.Framing.the-variants.{NoFrame, InFrame}
+use Rattle.frames.specs.declared.Frame.{Frame}
+use Rattle.frames.specs.declared.Phase.{Phase}
+use Rattle.frames.specs.declared.Phase.the-variants.{Data, Ack, Done}
+use Rattle.frames.specs.declared.Framing.{Framing}
+use Rattle.frames.specs.declared.Framing.the-variants.{NoFrame, InFrame}
 use Rattle.iic.specs.declared.Condition.{Condition}
 use Rattle.iic.specs.declared.Condition.the-variants.{NoCondition, StartRelease, StartHigh, StartHold, StopLow, StopHigh, StopRelease, StopDetect}
 use Rattle.iic.specs.declared.EighthFall.the-variants.{FellAt}
 use Rattle.iic.specs.declared.Hold.the-variants.{NoHold, Transmit, Receive}
-use Rattle.iic.specs.declared.MaybeHalf.{MaybeHalf}
-use Rattle.iic.specs.declared.MaybeHalf.the-variants.{NoHalf, Half}
-use Rattle.iic.specs.Answers.{fine, refused, andThen}
+use Rattle.waits.specs.declared.MaybeHalf.{MaybeHalf}
+use Rattle.waits.specs.declared.MaybeHalf.the-variants.{NoHalf, Half}
+use Rattle.iic.specs.Answers.{fine, andThen}
 use Rattle.iic.specs.Bits.{WAIT, ACKBT, RDRF, STOP}
-use Rattle.iic.specs.Half.{sumOf, halfWait, madeHalf}
 use Rattle.iic.specs.Kick.{kickOf}
 use Rattle.iic.specs.Setters.{setFrame, setCondition, setHold, setEighthFall, setBusy, setSynchronizedHold, setSelected, setCompleted, setReceiveEnabled, setReceiveStopped, setStaleRelease}
-use Rattle.iic.specs.Shift.{turned, starved, dataLevel, loadTransmitOf, beginFrameOf, arbitrationLostOf, setHoldOf, risingOf}
-use Rattle.iic.specs.State.{master, transmits, synchronous, conditioned, commanded, held, isData, isDone, raise, driveScl, driveSda, unclocked}
-use Rattle.iic.specs.Waits.{periodOf, clockFrom, turnClockOf, startClockOf}
+use Rattle.iic.specs.Shift.{loadTransmitOf, beginFrameOf, arbitrationLostOf, setHoldOf, risingOf}
+use Rattle.iic.specs.State.{master, transmits, synchronous, conditioned, commanded, held, raise, driveScl, driveSda, unclocked}
+use Rattle.iic.specs.Waiting.{clockFrom, turnClockOf, startClockOf}
+use Rattle.frames.specs.Parts.{turned, starved, dataLevel, isData, isDone}
+use Rattle.waits.specs.Half.{sumOf, madeHalf}
+use Rattle.waits.specs.Rates.{periodOf}
 
 -- ## A stop and a start of the bus
 

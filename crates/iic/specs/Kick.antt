@@ -1,28 +1,29 @@
 -- Definitions: `kick`, which starts what is due (a condition, a frame, a clock), and `release_hold` of iic.rs.
-use Prim.Native.Nat.{ℕ}
-use mathlib.Core.Bool.{Bool, true, false, not, _&&_, _||_, cond}
+use mathlib.Core.Bool.{Bool, false, not, _&&_, _||_, cond}
 use Rattle.bus.specs.Bits.{has}
 use Rattle.time.specs.declared.Time.{Time}
 use Rattle.clocks.specs.declared.Clocks.{Clocks}
 use Rattle.iic.specs.declared.Iic.{Iic}
 use Rattle.iic.specs.declared.Stepped.{Stepped}
-use Rattle.iic.specs.declared.Frame.{Frame}
-use Rattle.iic.specs.declared.Phase.{Phase}
-use Rattle.iic.specs.declared.Phase.the-variants.{Data, Ack, Done}
-use Rattle.iic.specs.declared.Framing.{Framing}
-use Rattle.iic.specs.declared.Framing.the-variants.{NoFrame, InFrame}
+use Rattle.frames.specs.declared.Frame.{Frame}
+use Rattle.frames.specs.declared.Phase.{Phase}
+use Rattle.frames.specs.declared.Phase.the-variants.{Data, Ack, Done}
+use Rattle.frames.specs.declared.Framing.{Framing}
+use Rattle.frames.specs.declared.Framing.the-variants.{NoFrame, InFrame}
 use Rattle.iic.specs.declared.Condition.{Condition}
 use Rattle.iic.specs.declared.Condition.the-variants.{StartRelease, StopLow}
 use Rattle.iic.specs.declared.Command.{Command}
 use Rattle.iic.specs.declared.Command.the-variants.{NoCommand, Commanded}
 use Rattle.iic.specs.declared.Hold.the-variants.{NoHold, Transmit}
-use Rattle.iic.specs.declared.MaybeHalf.the-variants.{NoHalf}
+use Rattle.waits.specs.declared.MaybeHalf.the-variants.{NoHalf}
 use Rattle.iic.specs.Answers.{fine, andThen}
 use Rattle.iic.specs.Bits.{ACKBT, NACKF}
 use Rattle.iic.specs.Setters.{setFrame, setCondition, setCommand, setHold, setDrive, setMonitorWait, setSynchronizedHold}
-use Rattle.iic.specs.Shift.{starved, dataLevel, loadTransmitOf, beginFrameOf, setHoldOf}
-use Rattle.iic.specs.State.{levels, awake, master, transmits, synchronous, framed, conditioned, commanded, held, isHalf, isDone, isAck, driveSda}
-use Rattle.iic.specs.Waits.{startClockOf, startSetupOf}
+use Rattle.iic.specs.Shift.{loadTransmitOf, beginFrameOf, setHoldOf}
+use Rattle.iic.specs.State.{levels, awake, master, transmits, synchronous, framed, conditioned, commanded, held, driveSda}
+use Rattle.iic.specs.Waiting.{startClockOf, startSetupOf}
+use Rattle.frames.specs.Parts.{starved, dataLevel, isDone}
+use Rattle.waits.specs.Ends.{isHalf}
 
 -- nothing is started while off, gated off or in reset, or while a condition is under way
 abbrev pub ready : Iic → Bool

@@ -2,9 +2,7 @@ pub mod Bits
 pub mod Setters
 pub mod State
 pub mod Answers
-pub mod Half
-pub mod Waits
-pub mod Mirror
+pub mod Waiting
 pub mod Shift
 pub mod Kick
 pub mod Edges

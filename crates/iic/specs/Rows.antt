@@ -10,17 +10,17 @@ use Rattle.clocks.specs.Clocks.{hasZero}
 use Rattle.iic.specs.declared.Iic.{Iic}
 use Rattle.iic.specs.declared.Pins.{Pins}
 use Rattle.iic.specs.declared.Pins.the-variants.{NoPins, Driven}
-use Rattle.iic.specs.declared.Phase.the-variants.{Data}
-use Rattle.iic.specs.declared.Framing.the-variants.{InFrame}
+use Rattle.frames.specs.declared.Phase.the-variants.{Data}
+use Rattle.frames.specs.declared.Framing.the-variants.{InFrame}
 use Rattle.iic.specs.Access.{registerAt, peekAt, readAt, writeAt, controlSet, redirected, takeControlOf, writeControlOf, writeModeOf, writeEnableOf, writeStatusOf, giveDataOf, sendOnOf, writeDataOf}
 use Rattle.iic.specs.Answers.{guarded}
 use Rattle.iic.specs.Calls.{guardBy, guardOf, peekOf, readOf, writeOf, pinsOf}
 use Rattle.iic.specs.Kick.{kickOf}
-use Rattle.iic.specs.Mirror.{mirrorOf, ordered}
 use Rattle.iic.specs.Setters.{setAddress, setFrame}
 use Rattle.iic.specs.Shift.{risingOf, risingDataOf, whenLostOf, lastBitOf, addressedOf, matchedOf, selectOf}
 use Rattle.iic.specs.State.{defaultIic, stopShifterOf}
-use Rattle.iic.specs.Waits.{rate, periodOf}
+use Rattle.frames.specs.Mirror.{mirrorOf, ordered}
+use Rattle.waits.specs.Rates.{rate, periodOf}
 
 -- what a row shows, and what document 01 has
 pub record Row : Type 0 where

@@ -6,13 +6,13 @@ use Rattle.iic.specs.declared.Iic.{Iic}
 use Rattle.iic.specs.declared.Registers.{Registers}
 use Rattle.iic.specs.declared.Lines.{Lines}
 use Rattle.iic.specs.declared.Flags.{Flags}
-use Rattle.iic.specs.declared.Framing.{Framing}
+use Rattle.frames.specs.declared.Framing.{Framing}
 use Rattle.iic.specs.declared.Condition.{Condition}
 use Rattle.iic.specs.declared.Command.{Command}
 use Rattle.iic.specs.declared.Hold.{Hold}
 use Rattle.iic.specs.declared.EighthFall.{EighthFall}
-use Rattle.iic.specs.declared.MaybeWait.{MaybeWait}
-use Rattle.iic.specs.declared.MaybeHalf.{MaybeHalf}
+use Rattle.waits.specs.declared.MaybeWait.{MaybeWait}
+use Rattle.waits.specs.declared.MaybeHalf.{MaybeHalf}
 
 abbrev pub setRegisters : Registers → Iic → Iic
 setRegisters x s = record { registers = x; lines = s .lines; flags = s .flags; frame = s .frame; condition = s .condition; command = s .command; hold = s .hold; «eighth_fall» = s .«eighth_fall»; «filter_wait» = s .«filter_wait»; «clock_wait» = s .«clock_wait»; «monitor_wait» = s .«monitor_wait»; «setup_wait» = s .«setup_wait» }

@@ -4,50 +4,24 @@ use mathlib.Core.Bool.{Bool, true, false, not, _&&_, _||_, cond}
 use lib.Bits.{bitAnd, bitOr}
 use lib.Dec.{eqb}
 use Rattle.bus.specs.Bits.{has, flag}
-use Rattle.bus.specs.Bus.{firstBit, shiftIn, isAcknowledge, isRead, isGeneralCall}
+use Rattle.bus.specs.Bus.{isAcknowledge, isRead, isGeneralCall}
 use Rattle.iic.specs.declared.Iic.{Iic}
-use Rattle.iic.specs.declared.Frame.{Frame}
-use Rattle.iic.specs.declared.Phase.{Phase}
-use Rattle.iic.specs.declared.Phase.the-variants.{Data, Ack, Done}
-use Rattle.iic.specs.declared.Framing.{Framing}
-use Rattle.iic.specs.declared.Framing.the-variants.{NoFrame, InFrame}
+use Rattle.frames.specs.declared.Frame.{Frame}
+use Rattle.frames.specs.declared.Phase.{Phase}
+use Rattle.frames.specs.declared.Phase.the-variants.{Data, Ack, Done}
+use Rattle.frames.specs.declared.Framing.{Framing}
+use Rattle.frames.specs.declared.Framing.the-variants.{NoFrame, InFrame}
 use Rattle.iic.specs.declared.Condition.the-variants.{NoCondition}
 use Rattle.iic.specs.declared.Command.the-variants.{NoCommand}
 use Rattle.iic.specs.declared.Hold.{Hold}
 use Rattle.iic.specs.declared.Hold.the-variants.{NoHold}
 use Rattle.iic.specs.Bits.{RCVD, MST, TRS, MLS, ACKE, ACKBR, TDRE, TEND, RDRF, NACKF, AL, AAS, ADZ, SVA}
-use Rattle.iic.specs.Mirror.{ordered}
 use Rattle.iic.specs.Setters.{setFrame, setCondition, setCommand, setHold, setDrive, setControl, setCount, setEnable, setRdr, setSynchronizedHold, setSelected, setCompleted, setReceiveEnabled, setReceiveStopped}
 use Rattle.iic.specs.State.{levels, master, transmits, synchronous, raise, clearControl, driveScl, unclocked}
+use Rattle.frames.specs.Mirror.{ordered}
+use Rattle.frames.specs.Parts.{bitsOf, phased, filled, sampled, starved, yieldIn}
 
 -- ## A frame with some parts set anew
-
-abbrev pub phased : Phase → Frame → Frame
-phased p f = record { shift = f .shift; remaining = f .remaining; phase = p; address = f .address; transmit = f .transmit; loaded = f .loaded; last = f .last }
-
--- with the byte to send
-abbrev pub filled : ℕ → Frame → Frame
-filled b f = record { shift = b; remaining = f .remaining; phase = f .phase; address = f .address; transmit = f .transmit; loaded = true; last = f .last }
-
--- sending or receiving; a receiver's frame counts as loaded
-abbrev pub turned : Bool → Frame → Frame
-turned sends f = record { shift = f .shift; remaining = f .remaining; phase = f .phase; address = f .address; transmit = sends; loaded = f .loaded || not sends; last = f .last }
-
--- after a lost arbitration the frame goes on as a receiver's
-abbrev pub yielded : Frame → Frame
-yielded f = record { shift = f .shift; remaining = f .remaining; phase = f .phase; address = f .address; transmit = false; loaded = true; last = f .last }
-
--- a bit was sampled
-abbrev pub sampled : Bool → Bool → Frame → Frame
-sampled lost sda f = record { shift = shiftIn (f .shift) sda; remaining = f .remaining - 1; phase = f .phase; address = f .address; transmit = f .transmit && not lost; loaded = f .loaded; last = f .last }
-
--- a frame that waits for its byte
-abbrev pub starved : Frame → Bool
-starved f = f .transmit && not (f .loaded)
-
--- what a frame's data phase shows on SDA: the bit to send, or released by a receiver
-abbrev pub dataLevel : Frame → Bool
-dataLevel f = not (f .transmit) || firstBit (f .shift)
 
 -- ## `load_transmit`: ICDRT goes into a frame that waits for it, and TDRE is raised
 
@@ -66,10 +40,6 @@ loadTransmitOf s = loadIn (s .frame) s
 abbrev pub frameSends : Bool → Iic → Bool
 frameSends address s = transmits s && (master s || s .flags .selected && not address || synchronous s)
 
--- eight bits for an address or a count of 0
-abbrev pub bitsOf : Bool → ℕ → ℕ
-bitsOf whole n = cond whole 8 n
-
 abbrev pub fresh : Bool → Iic → Frame
 fresh address s = record {
   shift = 0;
@@ -85,10 +55,6 @@ unfoldable pub beginFrameOf : Bool → Iic → Iic
 beginFrameOf address s = loadTransmitOf (setFrame (InFrame (fresh address s)) s)
 
 -- ## `arbitration_lost`
-
-abbrev pub yieldIn : Framing → Framing
-yieldIn NoFrame = NoFrame
-yieldIn (InFrame f) = InFrame (yielded f)
 
 unfoldable pub arbitrationLostOf : Iic → Iic
 arbitrationLostOf s =

@@ -1,31 +1,23 @@
 -- Definitions: the default, the tests on a state and its parts, and the small changes that many steps share.
 use Prim.Native.Nat.{ℕ, _-_}
-use mathlib.Core.Bool.{Bool, true, false, not, _&&_, _||_}
+use mathlib.Core.Bool.{Bool, true, false, _&&_}
 use lib.Bits.{bitAnd, bitOr}
 use Rattle.bus.specs.declared.Levels.{Levels}
 use Rattle.bus.specs.Bits.{has}
 use Rattle.iic.specs.declared.Iic.{Iic}
-use Rattle.iic.specs.declared.Registers.{Registers}
-use Rattle.iic.specs.declared.Lines.{Lines}
-use Rattle.iic.specs.declared.Flags.{Flags}
-use Rattle.iic.specs.declared.Phase.{Phase}
-use Rattle.iic.specs.declared.Phase.the-variants.{Data, Ack, Done}
-use Rattle.iic.specs.declared.Framing.{Framing}
-use Rattle.iic.specs.declared.Framing.the-variants.{NoFrame, InFrame}
+use Rattle.frames.specs.declared.Framing.{Framing}
+use Rattle.frames.specs.declared.Framing.the-variants.{NoFrame, InFrame}
 use Rattle.iic.specs.declared.Condition.{Condition}
 use Rattle.iic.specs.declared.Condition.the-variants.{NoCondition, StartRelease, StartHigh, StartHold, StopLow, StopHigh, StopRelease, StopDetect}
 use Rattle.iic.specs.declared.Command.{Command}
 use Rattle.iic.specs.declared.Command.the-variants.{NoCommand, Commanded}
 use Rattle.iic.specs.declared.Hold.{Hold}
 use Rattle.iic.specs.declared.Hold.the-variants.{NoHold, Transmit, Receive}
-use Rattle.iic.specs.declared.EighthFall.{EighthFall}
-use Rattle.iic.specs.declared.EighthFall.the-variants.{NoFall, FellAt}
-use Rattle.iic.specs.declared.MaybeWait.{MaybeWait}
-use Rattle.iic.specs.declared.MaybeWait.the-variants.{NoWait, Waiting}
-use Rattle.iic.specs.declared.MaybeHalf.{MaybeHalf}
-use Rattle.iic.specs.declared.MaybeHalf.the-variants.{NoHalf, Half}
-use Rattle.iic.specs.Bits.{ICE, RCVD, MST, TRS, FS}
-use Rattle.iic.specs.Setters.{setRegisters, setDrive, setClockWait, setMonitorWait, setStatus, setControl, setFrame, setSetupWait, setCondition, setCommand, setHold, setSynchronizedHold, setReceiveEnabled, setReceiveStopped}
+use Rattle.iic.specs.declared.EighthFall.the-variants.{NoFall}
+use Rattle.waits.specs.declared.MaybeWait.the-variants.{NoWait}
+use Rattle.waits.specs.declared.MaybeHalf.the-variants.{NoHalf}
+use Rattle.iic.specs.Bits.{ICE, MST, TRS, FS}
+use Rattle.iic.specs.Setters.{setDrive, setClockWait, setMonitorWait, setStatus, setControl, setFrame, setSetupWait, setCondition, setCommand, setHold, setSynchronizedHold, setReceiveEnabled, setReceiveStopped}
 
 abbrev pub levels : Bool → Bool → Levels
 levels c d = record { scl = c; sda = d }
@@ -117,29 +109,6 @@ abbrev pub isTransmitHold : Hold → Bool
 isTransmitHold NoHold = false
 isTransmitHold Transmit = true
 isTransmitHold Receive = false
-
-abbrev pub isWait : MaybeWait → Bool
-isWait NoWait = false
-isWait (Waiting w) = true
-
-abbrev pub isHalf : MaybeHalf → Bool
-isHalf NoHalf = false
-isHalf (Half w) = true
-
-abbrev pub isData : Phase → Bool
-isData Data = true
-isData Ack = false
-isData Done = false
-
-abbrev pub isAck : Phase → Bool
-isAck Data = false
-isAck Ack = true
-isAck Done = false
-
-abbrev pub isDone : Phase → Bool
-isDone Data = false
-isDone Ack = false
-isDone Done = true
 
 -- ## Small changes
 

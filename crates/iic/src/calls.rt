@@ -2,16 +2,11 @@
 ghost use mathlib.Core.Path.{_≡_};
 ghost use Rattle.iic.specs.Answers.{guarded, andThen};
 ghost use Rattle.iic.specs.Access.{registerAt, readAt};
-ghost use Rattle.iic.specs.State.{levels};
-ghost use Rattle.iic.specs.Calls.{rangesHold, progressIn, progressHolds, guardOf, peekOf, readOf, writeOf, takePinsOf, observes, inputPinsOf, pinsOf, keepStretchedOf, turnWaitsOf, gateTurned, turnGateOf, setGateOf, earliestOf, deadlineOf, visitOf, advanceOf, interruptBy, interruptWithEnableOf, fellBy, tapOf, shortHalf, halvesRefusal, firstOf, waitsRefusal, validateOf};
+ghost use Rattle.iic.specs.Calls.{rangesHold, progressHolds, guardOf, peekOf, readOf, writeOf, takePinsOf, observes, inputPinsOf, pinsOf, keepStretchedOf, turnWaitsOf, gateTurned, turnGateOf, setGateOf, earliestOf, deadlineOf, visitOf, advanceOf, interruptBy, interruptWithEnableOf, fellBy, halvesRefusal, firstOf, waitsRefusal, validateOf};
 use super::EighthFall;
 use super::Ended;
-use super::Framing;
 use super::Iic;
-use super::MaybeHalf;
-use super::MaybeWait;
 use super::Noticed;
-use super::Phase;
 use super::Pins;
 use super::ReadOut;
 use super::Register;
@@ -21,11 +16,11 @@ use super::bits::FS;
 use super::bits::NACKF;
 use super::bits::NAKIE;
 use super::bits::STOP;
-use super::waits::sooner;
 use bus::Levels;
 use clocks::Clocks;
 use clocks::wait::Deadline;
 use time::Time;
+use waits::ends::sooner;
 
 // The first of two refusals.
 fn first_of(a: u8, b: u8) -> u8
@@ -35,22 +30,6 @@ fn first_of(a: u8, b: u8) -> u8
     if none { b } else { a }
 }
 
-impl Framing {
-    fn progress_holds(self) -> bool
-        ensures { λ r. ⌜ r ≡ progressIn self ⌝ }
-    {
-        let Framing::InFrame(f) = self else {
-            return true;
-        };
-        let phase = f.phase;
-        match phase {
-            Phase::Data => (0 < f.remaining) & (f.remaining < 9),
-            Phase::Ack => f.remaining == 0,
-            Phase::Done => f.remaining == 0,
-        }
-    }
-}
-
 impl EighthFall {
     fn fell_by(self, now: Time) -> bool
         ensures { λ r. ⌜ r ≡ fellBy self now ⌝ }
@@ -58,29 +37,6 @@ impl EighthFall {
         match self {
             EighthFall::NoFall => true,
             EighthFall::FellAt(t) => !now.before(t),
-        }
-    }
-}
-
-impl MaybeWait {
-    fn tap_refusal(self) -> u8
-        ensures { λ r. ⌜ r ≡ tapOf self ⌝ }
-    {
-        match self {
-            MaybeWait::NoWait => 0,
-            MaybeWait::Waiting(w) => w.validate(),
-        }
-    }
-}
-
-impl MaybeHalf {
-    // 1024 more still fits 64 bits.
-    fn is_short(self) -> bool
-        ensures { λ r. ⌜ r ≡ shortHalf self ⌝ }
-    {
-        match self {
-            MaybeHalf::NoHalf => true,
-            MaybeHalf::Half(w) => w.count < 18446744073709550592,
         }
     }
 }

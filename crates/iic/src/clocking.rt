@@ -5,16 +5,16 @@ ghost use Rattle.iic.specs.Clocking.{monitorStepOf, toggleOf, stopReleas
 ghost use Rattle.iic.specs.Setters.{setSynchronizedHold};
 ghost use mathlib.Core.Bool.{true};
 use super::Condition;
-use super::Due;
 use super::Ended;
-use super::Framing;
 use super::Iic;
-use super::MaybeHalf;
-use super::MaybeWait;
 use super::Stepped;
-use super::waits::due;
 use clocks::Clocks;
+use frames::Framing;
 use time::Time;
+use waits::Due;
+use waits::MaybeHalf;
+use waits::MaybeWait;
+use waits::ends::due;
 
 // A level passes the filter when two successive clocks see it.
 fn passed(raw: bool, latch: bool, filtered: bool) -> bool

@@ -5,13 +5,8 @@ ghost use Rattle.iic.specs.Edges.{releaseSdaOf, stopNoted, busStopOf, lo
 use super::Condition;
 use super::EighthFall;
 use super::Ended;
-use super::Frame;
-use super::Framing;
-use super::HalfWait;
 use super::Hold;
 use super::Iic;
-use super::MaybeHalf;
-use super::Phase;
 use super::Stepped;
 use super::bits::ACKBT;
 use super::bits::FS;
@@ -20,12 +15,16 @@ use super::bits::RDRF;
 use super::bits::STOP;
 use super::bits::TRS;
 use super::bits::WAIT;
-use super::half::made_half;
-use super::half::sum_of;
-use super::waits::period;
 use bus::Levels;
 use clocks::Clocks;
+use frames::Frame;
+use frames::Framing;
+use frames::Phase;
 use time::Time;
+use waits::MaybeHalf;
+use waits::half::made_half;
+use waits::half::sum_of;
+use waits::rates::period;
 
 impl Iic {
     fn release_sda(self) -> Iic

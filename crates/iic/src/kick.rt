@@ -5,12 +5,8 @@ ghost use Rattle.iic.specs.Kick.{ready, commandReady, firstCondition, be
 use super::Command;
 use super::Condition;
 use super::Ended;
-use super::Frame;
-use super::Framing;
 use super::Hold;
 use super::Iic;
-use super::MaybeHalf;
-use super::Phase;
 use super::Stepped;
 use super::bits::ACKBT;
 use super::bits::FS;
@@ -18,7 +14,11 @@ use super::bits::MST;
 use super::bits::NACKF;
 use super::bits::TRS;
 use clocks::Clocks;
+use frames::Frame;
+use frames::Framing;
+use frames::Phase;
 use time::Time;
+use waits::MaybeHalf;
 
 fn first_condition(start: bool) -> Condition
     ensures { λ r. ⌜ r ≡ firstCondition start ⌝ }

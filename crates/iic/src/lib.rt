@@ -1,50 +1,22 @@
 // The I2C peripheral (IIC2) of the H8/38602R: its state, its steps and the eleven calls of its host, by value.
-pub mod access;
 pub mod answers;
 pub mod bits;
 pub mod calls;
 pub mod clocking;
 pub mod edges;
-pub mod half;
 pub mod kick;
-pub mod mirror;
+pub mod reading;
 pub mod shift;
 pub mod state;
-pub mod waits;
+pub mod waiting;
+pub mod writing;
 
 use bus::Levels;
 use clocks::Truth;
-use clocks::wait::ClockWait;
+use frames::Framing;
 use time::Time;
-
-// A number of half clocks of the system clock: the half count at which the wait ends, or what is left of it while paused.
-pub struct HalfWait {
-    pub count: u64,
-    pub paused: bool,
-}
-
-// What a frame is at: its bits, the ninth clock, or past it.
-pub enum Phase {
-    Data,
-    Ack,
-    Done,
-}
-
-// A byte on its way.
-pub struct Frame {
-    pub shift: u8,
-    pub remaining: u8,
-    pub phase: Phase,
-    pub address: bool,
-    pub transmit: bool,
-    pub loaded: bool,
-    pub last: bool,
-}
-
-pub enum Framing {
-    NoFrame,
-    InFrame(Frame),
-}
+use waits::MaybeHalf;
+use waits::MaybeWait;
 
 // A start or a stop that the master is about.
 pub enum Condition {
@@ -74,16 +46,6 @@ pub enum Hold {
 pub enum EighthFall {
     NoFall,
     FellAt(Time),
-}
-
-pub enum MaybeWait {
-    NoWait,
-    Waiting(ClockWait),
-}
-
-pub enum MaybeHalf {
-    NoHalf,
-    Half(HalfWait),
 }
 
 pub struct Registers {
@@ -166,19 +128,6 @@ pub struct Noticed {
 pub enum Pins {
     NoPins,
     Driven(Levels),
-}
-
-// A half wait that was made, or the number of the refusal.
-pub enum NewHalf {
-    Made(HalfWait),
-    Refused(u8),
-}
-
-// Whether a wait ends now, or the number of the refusal of its time.
-pub enum Due {
-    Now,
-    NotNow,
-    Refused(u8),
 }
 
 // The registers, by the manual's names.

@@ -1,15 +1,10 @@
 // The shifter, from a frame's beginning to its completion.
 ghost use mathlib.Core.Path.{_≡_};
-ghost use Prim.Native.Nat.{_-_};
-ghost use Rattle.iic.specs.Shift.{phased, filled, turned, yielded, sampled, starved, dataLevel, canLoad, loadTransmitOf, bitsOf, fresh, beginFrameOf, yieldIn, arbitrationLostOf, setHoldOf, acknowledgedOf, drainedOf, overrunOf, storedOf, receivedOf, receives, completeFrameOf, loses, whenLostOf, selectOf, matchedOf, addressedOf, finishedOf, endSynchronousOf, lastBitOf, risingDataOf, risingAckOf, risingOf};
+ghost use Rattle.iic.specs.Shift.{canLoad, loadTransmitOf, fresh, beginFrameOf, arbitrationLostOf, setHoldOf, acknowledgedOf, drainedOf, overrunOf, storedOf, receivedOf, receives, completeFrameOf, loses, whenLostOf, selectOf, matchedOf, addressedOf, finishedOf, endSynchronousOf, lastBitOf, risingDataOf, risingAckOf, risingOf};
 use super::Command;
 use super::Condition;
-use super::Frame;
-use super::Framing;
 use super::Hold;
 use super::Iic;
-use super::MaybeHalf;
-use super::Phase;
 use super::bits::AAS;
 use super::bits::ACKBR;
 use super::bits::ACKE;
@@ -25,87 +20,12 @@ use super::bits::SVA;
 use super::bits::TDRE;
 use super::bits::TEND;
 use super::bits::TRS;
-use super::mirror::ordered;
-
-// Eight bits for an address or a count of 0.
-pub(crate) fn bits_of(whole: bool, count: u8) -> u8
-    ensures { λ r. ⌜ r ≡ bitsOf whole count ⌝ }
-{
-    if whole { 8 } else { count }
-}
-
-fn fewer(n: u8) -> u8
-    ensures { λ r. ⌜ r ≡ n - 1 ⌝ }
-{
-    if n == 0 { 0 } else { n - 1 }
-}
-
-impl Frame {
-    pub(crate) fn at(self, phase: Phase) -> Frame
-        ensures { λ r. ⌜ r ≡ phased phase self ⌝ }
-    {
-        Frame { phase, ..self }
-    }
-
-    pub(crate) fn turned(mut self, sends: bool) -> Frame
-        ensures { λ r. ⌜ r ≡ turned sends self ⌝ }
-    {
-        self.transmit = sends;
-        self.loaded = self.loaded | !sends;
-        self
-    }
-
-    fn filled(mut self, byte: u8) -> Frame
-        ensures { λ r. ⌜ r ≡ filled byte self ⌝ }
-    {
-        self.shift = byte;
-        self.loaded = true;
-        self
-    }
-
-    fn yielded(mut self) -> Frame
-        ensures { λ r. ⌜ r ≡ yielded self ⌝ }
-    {
-        self.transmit = false;
-        self.loaded = true;
-        self
-    }
-
-    // A bit was sampled, and arbitration may have been lost by it.
-    fn sampled(mut self, lost: bool, sda: bool) -> Frame
-        ensures { λ r. ⌜ r ≡ sampled lost sda self ⌝ }
-    {
-        self.transmit = self.transmit & !lost;
-        self.shift = bus::shift_in(self.shift, sda);
-        self.remaining = fewer(self.remaining);
-        self
-    }
-
-    // Waits for its byte.
-    pub(crate) fn starved(self) -> bool
-        ensures { λ r. ⌜ r ≡ starved self ⌝ }
-    {
-        self.transmit & !self.loaded
-    }
-
-    // What the data phase shows on SDA.
-    pub(crate) fn data_level(self) -> bool
-        ensures { λ r. ⌜ r ≡ dataLevel self ⌝ }
-    {
-        !self.transmit | bus::first_bit(self.shift)
-    }
-}
-
-impl Framing {
-    fn yielded_in(self) -> Framing
-        ensures { λ r. ⌜ r ≡ yieldIn self ⌝ }
-    {
-        match self {
-            Framing::NoFrame => Framing::NoFrame,
-            Framing::InFrame(f) => Framing::InFrame(f.yielded()),
-        }
-    }
-}
+use frames::Frame;
+use frames::Framing;
+use frames::Phase;
+use frames::mirror::ordered;
+use frames::parts::bits_of;
+use waits::MaybeHalf;
 
 impl Iic {
     fn can_load(self, f: Frame) -> bool

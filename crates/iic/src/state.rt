@@ -1,24 +1,23 @@
 // The default state, its parts set anew, and the tests on it.
 ghost use mathlib.Core.Path.{_≡_};
 ghost use Rattle.iic.specs.Setters.{setFrame, setCondition, setCommand, setHold, setEighthFall, setFilterWait, setClockWait, setMonitorWait, setSetupWait};
-ghost use Rattle.iic.specs.State.{defaultIic, enabled, master, transmits, synchronous, awake, framed, conditioned, commanded, held, isTransmitHold, isWait, isHalf, isData, isAck, isDone, raise, clearControl, driveScl, driveSda, unclocked, stopShifterOf};
+ghost use Rattle.iic.specs.State.{defaultIic, enabled, master, transmits, synchronous, awake, framed, conditioned, commanded, held, isTransmitHold, raise, driveScl, driveSda, unclocked, stopShifterOf};
 use super::Command;
 use super::Condition;
 use super::EighthFall;
 use super::Flags;
-use super::Framing;
 use super::Hold;
 use super::Iic;
 use super::Lines;
-use super::MaybeHalf;
-use super::MaybeWait;
-use super::Phase;
 use super::Registers;
 use super::bits::FS;
 use super::bits::ICE;
 use super::bits::MST;
 use super::bits::TRS;
 use bus::Levels;
+use frames::Framing;
+use waits::MaybeHalf;
+use waits::MaybeWait;
 
 impl Iic {
     // The state at power-on.
@@ -280,50 +279,6 @@ impl Hold {
             Hold::NoHold => false,
             Hold::Transmit => true,
             Hold::Receive => false,
-        }
-    }
-}
-
-impl MaybeWait {
-    pub(crate) fn is_wait(self) -> bool
-        ensures { λ r. ⌜ r ≡ isWait self ⌝ }
-    {
-        match self {
-            MaybeWait::NoWait => false,
-            MaybeWait::Waiting(_) => true,
-        }
-    }
-}
-
-impl MaybeHalf {
-    pub(crate) fn is_half(self) -> bool
-        ensures { λ r. ⌜ r ≡ isHalf self ⌝ }
-    {
-        match self {
-            MaybeHalf::NoHalf => false,
-            MaybeHalf::Half(_) => true,
-        }
-    }
-}
-
-impl Phase {
-    pub(crate) fn is_data(self) -> bool
-        ensures { λ r. ⌜ r ≡ isData self ⌝ }
-    {
-        match self {
-            Phase::Data => true,
-            Phase::Ack => false,
-            Phase::Done => false,
-        }
-    }
-
-    pub(crate) fn is_done(self) -> bool
-        ensures { λ r. ⌜ r ≡ isDone self ⌝ }
-    {
-        match self {
-            Phase::Data => false,
-            Phase::Ack => false,
-            Phase::Done => true,
         }
     }
 }

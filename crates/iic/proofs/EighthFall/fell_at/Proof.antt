@@ -9,7 +9,7 @@ enum-known-self : tie.Need-enum-known-self
 enum-known-self c = search needs
 
 same-requires : tie.Need-same-requires
-same-requires c κs = search needs
+same-requires c κs = tt
 
 returns : tie.Need-returns
 returns c = simp (c .enum-told .given .1)

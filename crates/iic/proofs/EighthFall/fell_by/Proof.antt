@@ -9,7 +9,7 @@ enum-known-self : tie.Need-enum-known-self
 enum-known-self c = search needs
 
 before-requires : tie.Need-before-requires
-before-requires c κs = search needs
+before-requires c κs = tt
 
 returns : tie.Need-returns
 returns c = simp (c .enum-told .given .1)

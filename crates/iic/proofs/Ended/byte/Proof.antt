@@ -1,8 +1,6 @@
 use borrow.Author.Needs.{needs}
 use Rattle.iic.proofs.Ended.byte.Statement.{statement}
 use Rattle.iic.proofs.Ended.byte.Tie as tie
-use Rattle.iic.proofs.Ended.byte.Reads as reads
-use Rattle.iic.proofs.Ended.byte.Lts as lts
 
 enum-told : tie.Need-enum-told
 enum-told c = search needs

@@ -1,8 +1,6 @@
 use borrow.Author.Needs.{needs}
 use Rattle.iic.proofs.Ended.truth.Statement.{statement}
 use Rattle.iic.proofs.Ended.truth.Tie as tie
-use Rattle.iic.proofs.Ended.truth.Reads as reads
-use Rattle.iic.proofs.Ended.truth.Lts as lts
 
 enum-told : tie.Need-enum-told
 enum-told c = search needs

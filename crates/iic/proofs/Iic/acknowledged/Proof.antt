@@ -1,23 +1,22 @@
 use Rattle.iic.specs.Shift.{acknowledgedOf}
-use borrow.Author.Needs.{needs}
 use Rattle.iic.proofs.Iic.acknowledged.Statement.{statement}
 use Rattle.iic.proofs.Iic.acknowledged.Tie as tie
 
 synchronous-requires : tie.Need-synchronous-requires
-synchronous-requires c κs = search needs
+synchronous-requires c κs = tt
 
 returns : tie.Need-returns
 unfolding acknowledgedOf
 returns c = simp (c .if1 .taken, ← c .before .synchronous .ensures)
 
 flag-requires : tie.Need-flag-requires
-flag-requires c κs = search needs
+flag-requires c κs = tt
 
 is-acknowledge-requires : tie.Need-is-acknowledge-requires
-is-acknowledge-requires c κs = search needs
+is-acknowledge-requires c κs = tt
 
 flag-requires-2 : tie.Need-flag-requires-2
-flag-requires-2 c κs = search needs
+flag-requires-2 c κs = tt
 
 returns-2 : tie.Need-returns-2
 unfolding acknowledgedOf

@@ -1,10 +1,9 @@
 use Rattle.iic.specs.Shift.{addressedOf}
-use borrow.Author.Needs.{needs}
 use Rattle.iic.proofs.Iic.addressed.Statement.{statement}
 use Rattle.iic.proofs.Iic.addressed.Tie as tie
 
 matched-requires : tie.Need-matched-requires
-matched-requires c κs = search needs
+matched-requires c κs = tt
 
 returns : tie.Need-returns
 unfolding addressedOf

@@ -1,16 +1,15 @@
 use Rattle.iic.specs.Calls.{advanceOf}
-use borrow.Author.Needs.{needs}
 use Rattle.iic.proofs.Iic.advance.Statement.{statement}
 use Rattle.iic.proofs.Iic.advance.Tie as tie
 
 guard-requires : tie.Need-guard-requires
-guard-requires c κs = search needs
+guard-requires c κs = tt
 
 visit-requires : tie.Need-visit-requires
-visit-requires c κs = search needs
+visit-requires c κs = tt
 
 refused-requires : tie.Need-refused-requires
-refused-requires c κs = search needs
+refused-requires c κs = tt
 
 returns : tie.Need-returns
 unfolding advanceOf

@@ -1,10 +1,9 @@
 use Rattle.iic.specs.Shift.{arbitrationLostOf}
-use borrow.Author.Needs.{needs}
 use Rattle.iic.proofs.Iic.arbitration_lost.Statement.{statement}
 use Rattle.iic.proofs.Iic.arbitration_lost.Tie as tie
 
 yielded-in-requires : tie.Need-yielded-in-requires
-yielded-in-requires c κs = search needs
+yielded-in-requires c κs = tt
 
 returns : tie.Need-returns
 unfolding arbitrationLostOf

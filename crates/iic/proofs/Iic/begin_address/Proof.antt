@@ -1,10 +1,9 @@
 use Rattle.iic.specs.Edges.{beginAddressOf}
-use borrow.Author.Needs.{needs}
 use Rattle.iic.proofs.Iic.begin_address.Statement.{statement}
 use Rattle.iic.proofs.Iic.begin_address.Tie as tie
 
 begin-frame-requires : tie.Need-begin-frame-requires
-begin-frame-requires c κs = search needs
+begin-frame-requires c κs = tt
 
 returns : tie.Need-returns
 unfolding beginAddressOf

@@ -1,16 +1,15 @@
 use Rattle.iic.specs.Shift.{beginFrameOf}
-use borrow.Author.Needs.{needs}
 use Rattle.iic.proofs.Iic.begin_frame.Statement.{statement}
 use Rattle.iic.proofs.Iic.begin_frame.Tie as tie
 
 fresh-requires : tie.Need-fresh-requires
-fresh-requires c κs = search needs
+fresh-requires c κs = tt
 
 with-frame-requires : tie.Need-with-frame-requires
-with-frame-requires c κs = search needs
+with-frame-requires c κs = tt
 
 load-transmit-requires : tie.Need-load-transmit-requires
-load-transmit-requires c κs = search needs
+load-transmit-requires c κs = tt
 
 returns : tie.Need-returns
 unfolding beginFrameOf

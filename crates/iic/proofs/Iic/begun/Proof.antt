@@ -1,10 +1,9 @@
 use Rattle.iic.specs.Kick.{begunOf}
-use borrow.Author.Needs.{needs}
 use Rattle.iic.proofs.Iic.begun.Statement.{statement}
 use Rattle.iic.proofs.Iic.begun.Tie as tie
 
 first-condition-requires : tie.Need-first-condition-requires
-first-condition-requires c κs = search needs
+first-condition-requires c κs = tt
 
 returns : tie.Need-returns
 unfolding begunOf

@@ -1,30 +1,29 @@
 use Rattle.iic.specs.Edges.{busEdgeOf}
-use borrow.Author.Needs.{needs}
 use Rattle.iic.proofs.Iic.bus_edge.Statement.{statement}
 use Rattle.iic.proofs.Iic.bus_edge.Tie as tie
 
 synchronous-requires : tie.Need-synchronous-requires
-synchronous-requires c κs = search needs
+synchronous-requires c κs = tt
 
 returns : tie.Need-returns
 unfolding busEdgeOf
 returns c = simp (c .if1 .taken, ← c .before .synchronous .ensures)
 
 is-stop-requires : tie.Need-is-stop-requires
-is-stop-requires c κs = search needs
+is-stop-requires c κs = tt
 
 bus-stop-requires : tie.Need-bus-stop-requires
-bus-stop-requires c κs = search needs
+bus-stop-requires c κs = tt
 
 returns-2 : tie.Need-returns-2
 unfolding busEdgeOf
 returns-2 c = simp (c .bus-stop .ensures, c .before .if2 .taken, ← c .before .before .is-stop .ensures, c .before .before .before .before .before .if1 .left, ← c .before .before .before .before .before .before .synchronous .ensures)
 
 is-start-requires : tie.Need-is-start-requires
-is-start-requires c κs = search needs
+is-start-requires c κs = tt
 
 bus-start-requires : tie.Need-bus-start-requires
-bus-start-requires c κs = search needs
+bus-start-requires c κs = tt
 
 returns-3 : tie.Need-returns-3
 unfolding busEdgeOf

@@ -1,13 +1,12 @@
 use Rattle.iic.specs.Edges.{busStartOf}
-use borrow.Author.Needs.{needs}
 use Rattle.iic.proofs.Iic.bus_start.Statement.{statement}
 use Rattle.iic.proofs.Iic.bus_start.Tie as tie
 
 lose-start-requires : tie.Need-lose-start-requires
-lose-start-requires c κs = search needs
+lose-start-requires c κs = tt
 
 begin-address-requires : tie.Need-begin-address-requires
-begin-address-requires c κs = search needs
+begin-address-requires c κs = tt
 
 returns : tie.Need-returns
 unfolding busStartOf

@@ -1,13 +1,12 @@
 use Rattle.iic.specs.Edges.{busStopOf}
-use borrow.Author.Needs.{needs}
 use Rattle.iic.proofs.Iic.bus_stop.Statement.{statement}
 use Rattle.iic.proofs.Iic.bus_stop.Tie as tie
 
 stop-noted-requires : tie.Need-stop-noted-requires
-stop-noted-requires c κs = search needs
+stop-noted-requires c κs = tt
 
 release-sda-requires : tie.Need-release-sda-requires
-release-sda-requires c κs = search needs
+release-sda-requires c κs = tt
 
 returns : tie.Need-returns
 unfolding busStopOf

@@ -1,9 +1,8 @@
-use borrow.Author.Needs.{needs}
 use Rattle.iic.proofs.Iic.can_load.Statement.{statement}
 use Rattle.iic.proofs.Iic.can_load.Tie as tie
 
 starved-requires : tie.Need-starved-requires
-starved-requires c κs = search needs
+starved-requires c κs = tt
 
 returns : tie.Need-returns
 returns c = simp (c .before .starved .ensures)

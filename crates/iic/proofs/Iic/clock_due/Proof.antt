@@ -1,15 +1,14 @@
-use borrow.Author.Needs.{needs}
 use Rattle.iic.proofs.Iic.clock_due.Statement.{statement}
 use Rattle.iic.proofs.Iic.clock_due.Tie as tie
 
 master-requires : tie.Need-master-requires
-master-requires c κs = search needs
+master-requires c κs = tt
 
 is-half-requires : tie.Need-is-half-requires
-is-half-requires c κs = search needs
+is-half-requires c κs = tt
 
 held-requires : tie.Need-held-requires
-held-requires c κs = search needs
+held-requires c κs = tt
 
 returns : tie.Need-returns
 returns c = simp (c .before .held .ensures, ← c .before .before .is-half .ensures, ← c .before .before .before .master .ensures)

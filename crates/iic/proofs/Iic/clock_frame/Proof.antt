@@ -1,16 +1,15 @@
 use Rattle.iic.specs.Kick.{clockFrameOf}
-use borrow.Author.Needs.{needs}
 use Rattle.iic.proofs.Iic.clock_frame.Statement.{statement}
 use Rattle.iic.proofs.Iic.clock_frame.Tie as tie
 
 clock-due-requires : tie.Need-clock-due-requires
-clock-due-requires c κs = search needs
+clock-due-requires c κs = tt
 
 launch-in-requires : tie.Need-launch-in-requires
-launch-in-requires c κs = search needs
+launch-in-requires c κs = tt
 
 fine-requires : tie.Need-fine-requires
-fine-requires c κs = search needs
+fine-requires c κs = tt
 
 returns : tie.Need-returns
 unfolding clockFrameOf

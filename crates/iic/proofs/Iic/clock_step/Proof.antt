@@ -7,70 +7,70 @@ enum-told : tie.Need-enum-told
 enum-told c = search needs
 
 toggle-requires : tie.Need-toggle-requires
-toggle-requires c κs = search needs
+toggle-requires c κs = tt
 
 enum-told-2 : tie.Need-enum-told-2
 enum-told-2 c = search needs
 
 drive-scl-requires : tie.Need-drive-scl-requires
-drive-scl-requires c κs = search needs
+drive-scl-requires c κs = tt
 
 with-condition-requires : tie.Need-with-condition-requires
-with-condition-requires c κs = search needs
+with-condition-requires c κs = tt
 
 fine-requires : tie.Need-fine-requires
-fine-requires c κs = search needs
+fine-requires c κs = tt
 
 enum-told-3 : tie.Need-enum-told-3
 enum-told-3 c = search needs
 
 fine-requires-2 : tie.Need-fine-requires-2
-fine-requires-2 c κs = search needs
+fine-requires-2 c κs = tt
 
 enum-told-4 : tie.Need-enum-told-4
 enum-told-4 c = search needs
 
 drive-scl-requires-2 : tie.Need-drive-scl-requires-2
-drive-scl-requires-2 c κs = search needs
+drive-scl-requires-2 c κs = tt
 
 with-condition-requires-2 : tie.Need-with-condition-requires-2
-with-condition-requires-2 c κs = search needs
+with-condition-requires-2 c κs = tt
 
 start-clock-requires : tie.Need-start-clock-requires
-start-clock-requires c κs = search needs
+start-clock-requires c κs = tt
 
 enum-told-5 : tie.Need-enum-told-5
 enum-told-5 c = search needs
 
 drive-scl-requires-3 : tie.Need-drive-scl-requires-3
-drive-scl-requires-3 c κs = search needs
+drive-scl-requires-3 c κs = tt
 
 with-condition-requires-3 : tie.Need-with-condition-requires-3
-with-condition-requires-3 c κs = search needs
+with-condition-requires-3 c κs = tt
 
 fine-requires-3 : tie.Need-fine-requires-3
-fine-requires-3 c κs = search needs
+fine-requires-3 c κs = tt
 
 enum-told-6 : tie.Need-enum-told-6
 enum-told-6 c = search needs
 
 fine-requires-4 : tie.Need-fine-requires-4
-fine-requires-4 c κs = search needs
+fine-requires-4 c κs = tt
 
 enum-told-7 : tie.Need-enum-told-7
 enum-told-7 c = search needs
 
 stop-released-requires : tie.Need-stop-released-requires
-stop-released-requires c κs = search needs
+stop-released-requires c κs = tt
 
 fine-requires-5 : tie.Need-fine-requires-5
-fine-requires-5 c κs = search needs
+fine-requires-5 c κs = tt
 
 enum-told-8 : tie.Need-enum-told-8
 enum-told-8 c = search needs
 
 fine-requires-6 : tie.Need-fine-requires-6
-fine-requires-6 c κs = search needs
+fine-requires-6 c κs = tt
 
 returns : tie.Need-returns
 unfolding clockStepOf

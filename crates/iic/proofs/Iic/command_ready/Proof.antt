@@ -1,12 +1,11 @@
-use borrow.Author.Needs.{needs}
 use Rattle.iic.proofs.Iic.command_ready.Statement.{statement}
 use Rattle.iic.proofs.Iic.command_ready.Tie as tie
 
 commanded-requires : tie.Need-commanded-requires
-commanded-requires c κs = search needs
+commanded-requires c κs = tt
 
 framed-requires : tie.Need-framed-requires
-framed-requires c κs = search needs
+framed-requires c κs = tt
 
 returns : tie.Need-returns
 returns c = simp (c .before .framed .ensures, ← c .before .before .commanded .ensures)

@@ -1,8 +1,6 @@
 use borrow.Author.Needs.{needs}
 use Rattle.iic.proofs.Iic.commanded.Statement.{statement}
 use Rattle.iic.proofs.Iic.commanded.Tie as tie
-use Rattle.iic.proofs.Iic.commanded.Reads as reads
-use Rattle.iic.proofs.Iic.commanded.Lts as lts
 
 enum-told : tie.Need-enum-told
 enum-told c = search needs

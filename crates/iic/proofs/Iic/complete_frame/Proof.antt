@@ -1,23 +1,22 @@
 use Rattle.iic.specs.Shift.{completeFrameOf}
-use borrow.Author.Needs.{needs}
 use Rattle.iic.proofs.Iic.complete_frame.Statement.{statement}
 use Rattle.iic.proofs.Iic.complete_frame.Tie as tie
 
 acknowledged-requires : tie.Need-acknowledged-requires
-acknowledged-requires c κs = search needs
+acknowledged-requires c κs = tt
 
 drained-requires : tie.Need-drained-requires
-drained-requires c κs = search needs
+drained-requires c κs = tt
 
 returns : tie.Need-returns
 unfolding completeFrameOf
 returns c = simp (c .drained .ensures, ← c .before .acknowledged .ensures, c .before .before .if1 .taken)
 
 receives-requires : tie.Need-receives-requires
-receives-requires c κs = search needs
+receives-requires c κs = tt
 
 received-requires : tie.Need-received-requires
-received-requires c κs = search needs
+received-requires c κs = tt
 
 returns-2 : tie.Need-returns-2
 unfolding completeFrameOf

@@ -1,8 +1,6 @@
 use borrow.Author.Needs.{needs}
 use Rattle.iic.proofs.Iic.conditioned.Statement.{statement}
 use Rattle.iic.proofs.Iic.conditioned.Tie as tie
-use Rattle.iic.proofs.Iic.conditioned.Reads as reads
-use Rattle.iic.proofs.Iic.conditioned.Lts as lts
 
 enum-told : tie.Need-enum-told
 enum-told c = search needs

@@ -1,13 +1,12 @@
 use Rattle.iic.specs.Access.{continuedOf}
-use borrow.Author.Needs.{needs}
 use Rattle.iic.proofs.Iic.continued.Statement.{statement}
 use Rattle.iic.proofs.Iic.continued.Tie as tie
 
 marked-in-requires : tie.Need-marked-in-requires
-marked-in-requires c κs = search needs
+marked-in-requires c κs = tt
 
 with-frame-requires : tie.Need-with-frame-requires
-with-frame-requires c κs = search needs
+with-frame-requires c κs = tt
 
 returns : tie.Need-returns
 unfolding continuedOf

@@ -1,13 +1,12 @@
 use Rattle.iic.specs.Access.{controlSet}
-use borrow.Author.Needs.{needs}
 use Rattle.iic.proofs.Iic.control_set.Statement.{statement}
 use Rattle.iic.proofs.Iic.control_set.Tie as tie
 
 flag-requires : tie.Need-flag-requires
-flag-requires c κs = search needs
+flag-requires c κs = tt
 
 raise-requires : tie.Need-raise-requires
-raise-requires c κs = search needs
+raise-requires c κs = tt
 
 returns : tie.Need-returns
 unfolding controlSet

@@ -1,20 +1,19 @@
 use Rattle.iic.specs.Calls.{deadlineOf}
-use borrow.Author.Needs.{needs}
 use Rattle.iic.proofs.Iic.deadline.Statement.{statement}
 use Rattle.iic.proofs.Iic.deadline.Tie as tie
 
 has-zero-requires : tie.Need-has-zero-requires
-has-zero-requires c κs = search needs
+has-zero-requires c κs = tt
 
 returns : tie.Need-returns
 unfolding deadlineOf
 returns c = simp (c .if1 .taken, ← c .before .has-zero .ensures)
 
 awake-requires : tie.Need-awake-requires
-awake-requires c κs = search needs
+awake-requires c κs = tt
 
 earliest-requires : tie.Need-earliest-requires
-earliest-requires c κs = search needs
+earliest-requires c κs = tt
 
 returns-2 : tie.Need-returns-2
 unfolding deadlineOf

@@ -1,28 +1,27 @@
 use Rattle.iic.specs.Calls.{earliestOf}
-use borrow.Author.Needs.{needs}
 use Rattle.iic.proofs.Iic.earliest.Statement.{statement}
 use Rattle.iic.proofs.Iic.earliest.Tie as tie
 
 half-end-requires : tie.Need-half-end-requires
-half-end-requires c κs = search needs
+half-end-requires c κs = tt
 
 end-requires : tie.Need-end-requires
-end-requires c κs = search needs
+end-requires c κs = tt
 
 sooner-requires : tie.Need-sooner-requires
-sooner-requires c κs = search needs
+sooner-requires c κs = tt
 
 end-requires-2 : tie.Need-end-requires-2
-end-requires-2 c κs = search needs
+end-requires-2 c κs = tt
 
 half-end-requires-2 : tie.Need-half-end-requires-2
-half-end-requires-2 c κs = search needs
+half-end-requires-2 c κs = tt
 
 sooner-requires-2 : tie.Need-sooner-requires-2
-sooner-requires-2 c κs = search needs
+sooner-requires-2 c κs = tt
 
 sooner-requires-3 : tie.Need-sooner-requires-3
-sooner-requires-3 c κs = search needs
+sooner-requires-3 c κs = tt
 
 returns : tie.Need-returns
 unfolding earliestOf

@@ -1,9 +1,8 @@
-use borrow.Author.Needs.{needs}
 use Rattle.iic.proofs.Iic.early_stop.Statement.{statement}
 use Rattle.iic.proofs.Iic.early_stop.Tie as tie
 
 is-done-in-requires : tie.Need-is-done-in-requires
-is-done-in-requires c κs = search needs
+is-done-in-requires c κs = tt
 
 returns : tie.Need-returns
 returns c = simp (c .is-done-in .ensures)

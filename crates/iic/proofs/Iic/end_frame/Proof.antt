@@ -14,10 +14,10 @@ unfolding endFrameOf
 returns c = simp (c .enum-told .given .1)
 
 is-done-requires : tie.Need-is-done-requires
-is-done-requires c κs = search needs
+is-done-requires c κs = tt
 
 end-with-requires : tie.Need-end-with-requires
-end-with-requires c κs = search needs
+end-with-requires c κs = tt
 
 returns-2 : tie.Need-returns-2
 unfolding endFrameOf

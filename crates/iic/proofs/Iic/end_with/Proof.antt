@@ -1,9 +1,8 @@
-use borrow.Author.Needs.{needs}
 use Rattle.iic.proofs.Iic.end_with.Statement.{statement}
 use Rattle.iic.proofs.Iic.end_with.Tie as tie
 
 with-frame-requires : tie.Need-with-frame-requires
-with-frame-requires c κs = search needs
+with-frame-requires c κs = tt
 
 returns : tie.Need-returns
 returns c = simp (c .with-frame .ensures)

@@ -1,16 +1,15 @@
 use Rattle.iic.specs.Access.{enterResetOf}
-use borrow.Author.Needs.{needs}
 use Rattle.iic.proofs.Iic.enter_reset.Statement.{statement}
 use Rattle.iic.proofs.Iic.enter_reset.Tie as tie
 
 stop-shifter-requires : tie.Need-stop-shifter-requires
-stop-shifter-requires c κs = search needs
+stop-shifter-requires c κs = tt
 
 flag-requires : tie.Need-flag-requires
-flag-requires c κs = search needs
+flag-requires c κs = tt
 
 raise-requires : tie.Need-raise-requires
-raise-requires c κs = search needs
+raise-requires c κs = tt
 
 returns : tie.Need-returns
 unfolding enterResetOf

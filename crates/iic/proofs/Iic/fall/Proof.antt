@@ -10,17 +10,17 @@ enum-told : tie.Need-enum-told
 enum-told c = search needs
 
 fall-idle-requires : tie.Need-fall-idle-requires
-fall-idle-requires c κs = search needs
+fall-idle-requires c κs = tt
 
 fine-requires : tie.Need-fine-requires
-fine-requires c κs = search needs
+fine-requires c κs = tt
 
 returns : tie.Need-returns
 unfolding fallOf
 returns c = simp (c .fine .ensures, ← c .before .fall-idle .ensures, c .before .before .enum-told .given .1)
 
 fall-at-requires : tie.Need-fall-at-requires
-fall-at-requires c κs = search needs
+fall-at-requires c κs = tt
 
 returns-2 : tie.Need-returns-2
 unfolding fallOf

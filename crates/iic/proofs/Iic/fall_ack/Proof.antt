@@ -1,19 +1,18 @@
 use Rattle.iic.specs.Edges.{fallAckOf}
-use borrow.Author.Needs.{needs}
 use Rattle.iic.proofs.Iic.fall_ack.Statement.{statement}
 use Rattle.iic.proofs.Iic.fall_ack.Tie as tie
 
 with-eighth-fall-requires : tie.Need-with-eighth-fall-requires
-with-eighth-fall-requires c κs = search needs
+with-eighth-fall-requires c κs = tt
 
 hold-receive-requires : tie.Need-hold-receive-requires
-hold-receive-requires c κs = search needs
+hold-receive-requires c κs = tt
 
 acknowledge-requires : tie.Need-acknowledge-requires
-acknowledge-requires c κs = search needs
+acknowledge-requires c κs = tt
 
 insert-wait-requires : tie.Need-insert-wait-requires
-insert-wait-requires c κs = search needs
+insert-wait-requires c κs = tt
 
 returns : tie.Need-returns
 unfolding fallAckOf

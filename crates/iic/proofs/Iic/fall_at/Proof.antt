@@ -6,25 +6,25 @@ enum-told : tie.Need-enum-told
 enum-told c = search needs
 
 load-transmit-requires : tie.Need-load-transmit-requires
-load-transmit-requires c κs = search needs
+load-transmit-requires c κs = tt
 
 fall-data-requires : tie.Need-fall-data-requires
-fall-data-requires c κs = search needs
+fall-data-requires c κs = tt
 
 fine-requires : tie.Need-fine-requires
-fine-requires c κs = search needs
+fine-requires c κs = tt
 
 enum-told-2 : tie.Need-enum-told-2
 enum-told-2 c = search needs
 
 fall-ack-requires : tie.Need-fall-ack-requires
-fall-ack-requires c κs = search needs
+fall-ack-requires c κs = tt
 
 enum-told-3 : tie.Need-enum-told-3
 enum-told-3 c = search needs
 
 fine-requires-2 : tie.Need-fine-requires-2
-fine-requires-2 c κs = search needs
+fine-requires-2 c κs = tt
 
 returns : tie.Need-returns
 returns c = simp (c .fine .ensures, ← c .before .fall-data .ensures, ← c .before .before .load-transmit .ensures, c .before .before .before .enum-told .given .1)

@@ -14,20 +14,20 @@ unfolding fallDataOf
 returns c = simp (c .enum-told .given .1)
 
 starved-requires : tie.Need-starved-requires
-starved-requires c κs = search needs
+starved-requires c κs = tt
 
 hold-transmit-requires : tie.Need-hold-transmit-requires
-hold-transmit-requires c κs = search needs
+hold-transmit-requires c κs = tt
 
 returns-2 : tie.Need-returns-2
 unfolding fallDataOf
 returns-2 c = simp (c .hold-transmit .ensures, c .before .if1 .taken, ← c .before .before .starved .ensures, c .before .before .before .before .frame .given .1)
 
 data-level-requires : tie.Need-data-level-requires
-data-level-requires c κs = search needs
+data-level-requires c κs = tt
 
 drive-sda-requires : tie.Need-drive-sda-requires
-drive-sda-requires c κs = search needs
+drive-sda-requires c κs = tt
 
 returns-3 : tie.Need-returns-3
 unfolding fallDataOf

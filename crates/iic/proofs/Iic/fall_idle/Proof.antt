@@ -1,13 +1,12 @@
 use Rattle.iic.specs.Edges.{fallIdleOf}
-use borrow.Author.Needs.{needs}
 use Rattle.iic.proofs.Iic.fall_idle.Statement.{statement}
 use Rattle.iic.proofs.Iic.fall_idle.Tie as tie
 
 master-requires : tie.Need-master-requires
-master-requires c κs = search needs
+master-requires c κs = tt
 
 unclocked-requires : tie.Need-unclocked-requires
-unclocked-requires c κs = search needs
+unclocked-requires c κs = tt
 
 returns : tie.Need-returns
 unfolding fallIdleOf

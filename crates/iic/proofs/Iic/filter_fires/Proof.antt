@@ -1,16 +1,15 @@
 use Rattle.iic.specs.Clocking.{filterFiresOf}
-use borrow.Author.Needs.{needs}
 use Rattle.iic.proofs.Iic.filter_fires.Statement.{statement}
 use Rattle.iic.proofs.Iic.filter_fires.Tie as tie
 
 filter-pass-requires : tie.Need-filter-pass-requires
-filter-pass-requires c κs = search needs
+filter-pass-requires c κs = tt
 
 filtered-edges-requires : tie.Need-filtered-edges-requires
-filtered-edges-requires c κs = search needs
+filtered-edges-requires c κs = tt
 
 then-schedule-filter-requires : tie.Need-then-schedule-filter-requires
-then-schedule-filter-requires c κs = search needs
+then-schedule-filter-requires c κs = tt
 
 returns : tie.Need-returns
 unfolding filterFiresOf

@@ -1,16 +1,15 @@
 use Rattle.iic.specs.Clocking.{filterPassOf}
-use borrow.Author.Needs.{needs}
 use Rattle.iic.proofs.Iic.filter_pass.Statement.{statement}
 use Rattle.iic.proofs.Iic.filter_pass.Tie as tie
 
 passed-requires : tie.Need-passed-requires
-passed-requires c κs = search needs
+passed-requires c κs = tt
 
 passed-requires-2 : tie.Need-passed-requires-2
-passed-requires-2 c κs = search needs
+passed-requires-2 c κs = tt
 
 with-filter-wait-requires : tie.Need-with-filter-wait-requires
-with-filter-wait-requires c κs = search needs
+with-filter-wait-requires c κs = tt
 
 returns : tie.Need-returns
 unfolding filterPassOf

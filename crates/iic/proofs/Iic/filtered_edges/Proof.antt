@@ -1,26 +1,25 @@
 use Rattle.iic.specs.Edges.{filteredEdgesOf}
-use borrow.Author.Needs.{needs}
 use Rattle.iic.proofs.Iic.filtered_edges.Statement.{statement}
 use Rattle.iic.proofs.Iic.filtered_edges.Tie as tie
 
 bus-edge-requires : tie.Need-bus-edge-requires
-bus-edge-requires c κs = search needs
+bus-edge-requires c κs = tt
 
 fine-requires : tie.Need-fine-requires
-fine-requires c κs = search needs
+fine-requires c κs = tt
 
 returns : tie.Need-returns
 unfolding filteredEdgesOf
 returns c = simp (c .fine .ensures, c .before .if1 .taken, ← c .before .before .bus-edge .ensures)
 
 stretched-requires : tie.Need-stretched-requires
-stretched-requires c κs = search needs
+stretched-requires c κs = tt
 
 then-condition-step-requires : tie.Need-then-condition-step-requires
-then-condition-step-requires c κs = search needs
+then-condition-step-requires c κs = tt
 
 then-scl-edge-requires : tie.Need-then-scl-edge-requires
-then-scl-edge-requires c κs = search needs
+then-scl-edge-requires c κs = tt
 
 returns-2 : tie.Need-returns-2
 unfolding filteredEdgesOf

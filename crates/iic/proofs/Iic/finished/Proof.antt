@@ -1,10 +1,9 @@
 use Rattle.iic.specs.Shift.{finishedOf}
-use borrow.Author.Needs.{needs}
 use Rattle.iic.proofs.Iic.finished.Statement.{statement}
 use Rattle.iic.proofs.Iic.finished.Tie as tie
 
 unclocked-requires : tie.Need-unclocked-requires
-unclocked-requires c κs = search needs
+unclocked-requires c κs = tt
 
 returns : tie.Need-returns
 unfolding finishedOf

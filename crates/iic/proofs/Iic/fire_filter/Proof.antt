@@ -4,28 +4,28 @@ use Rattle.iic.proofs.Iic.fire_filter.Statement.{statement}
 use Rattle.iic.proofs.Iic.fire_filter.Tie as tie
 
 end-requires : tie.Need-end-requires
-end-requires c κs = search needs
+end-requires c κs = tt
 
 due-requires : tie.Need-due-requires
-due-requires c κs = search needs
+due-requires c κs = tt
 
 enum-told : tie.Need-enum-told
 enum-told c = search needs
 
 filter-fires-requires : tie.Need-filter-fires-requires
-filter-fires-requires c κs = search needs
+filter-fires-requires c κs = tt
 
 enum-told-2 : tie.Need-enum-told-2
 enum-told-2 c = search needs
 
 fine-requires : tie.Need-fine-requires
-fine-requires c κs = search needs
+fine-requires c κs = tt
 
 enum-known-ends : tie.Need-enum-known-ends
 enum-known-ends c = search needs
 
 refused-requires : tie.Need-refused-requires
-refused-requires c κs = search needs
+refused-requires c κs = tt
 
 returns : tie.Need-returns
 unfolding fireFilterOf

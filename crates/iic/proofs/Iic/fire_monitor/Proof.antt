@@ -4,31 +4,31 @@ use Rattle.iic.proofs.Iic.fire_monitor.Statement.{statement}
 use Rattle.iic.proofs.Iic.fire_monitor.Tie as tie
 
 half-end-requires : tie.Need-half-end-requires
-half-end-requires c κs = search needs
+half-end-requires c κs = tt
 
 due-requires : tie.Need-due-requires
-due-requires c κs = search needs
+due-requires c κs = tt
 
 enum-told : tie.Need-enum-told
 enum-told c = search needs
 
 with-monitor-wait-requires : tie.Need-with-monitor-wait-requires
-with-monitor-wait-requires c κs = search needs
+with-monitor-wait-requires c κs = tt
 
 stretch-requires : tie.Need-stretch-requires
-stretch-requires c κs = search needs
+stretch-requires c κs = tt
 
 enum-told-2 : tie.Need-enum-told-2
 enum-told-2 c = search needs
 
 fine-requires : tie.Need-fine-requires
-fine-requires c κs = search needs
+fine-requires c κs = tt
 
 enum-known-ends : tie.Need-enum-known-ends
 enum-known-ends c = search needs
 
 refused-requires : tie.Need-refused-requires
-refused-requires c κs = search needs
+refused-requires c κs = tt
 
 returns : tie.Need-returns
 unfolding fireMonitorOf

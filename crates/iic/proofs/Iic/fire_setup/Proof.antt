@@ -4,34 +4,34 @@ use Rattle.iic.proofs.Iic.fire_setup.Statement.{statement}
 use Rattle.iic.proofs.Iic.fire_setup.Tie as tie
 
 end-requires : tie.Need-end-requires
-end-requires c κs = search needs
+end-requires c κs = tt
 
 due-requires : tie.Need-due-requires
-due-requires c κs = search needs
+due-requires c κs = tt
 
 enum-told : tie.Need-enum-told
 enum-told c = search needs
 
 with-setup-wait-requires : tie.Need-with-setup-wait-requires
-with-setup-wait-requires c κs = search needs
+with-setup-wait-requires c κs = tt
 
 drive-scl-requires : tie.Need-drive-scl-requires
-drive-scl-requires c κs = search needs
+drive-scl-requires c κs = tt
 
 fine-requires : tie.Need-fine-requires
-fine-requires c κs = search needs
+fine-requires c κs = tt
 
 enum-told-2 : tie.Need-enum-told-2
 enum-told-2 c = search needs
 
 fine-requires-2 : tie.Need-fine-requires-2
-fine-requires-2 c κs = search needs
+fine-requires-2 c κs = tt
 
 enum-known-ends : tie.Need-enum-known-ends
 enum-known-ends c = search needs
 
 refused-requires : tie.Need-refused-requires
-refused-requires c κs = search needs
+refused-requires c κs = tt
 
 returns : tie.Need-returns
 unfolding fireSetupOf

@@ -14,13 +14,13 @@ unfolding followOf
 returns c = simp (c .enum-told .given .1)
 
 is-data-requires : tie.Need-is-data-requires
-is-data-requires c κs = search needs
+is-data-requires c κs = tt
 
 turned-requires : tie.Need-turned-requires
-turned-requires c κs = search needs
+turned-requires c κs = tt
 
 with-frame-requires : tie.Need-with-frame-requires
-with-frame-requires c κs = search needs
+with-frame-requires c κs = tt
 
 returns-2 : tie.Need-returns-2
 unfolding followOf

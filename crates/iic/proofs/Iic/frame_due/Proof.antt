@@ -1,9 +1,8 @@
-use borrow.Author.Needs.{needs}
 use Rattle.iic.proofs.Iic.frame_due.Statement.{statement}
 use Rattle.iic.proofs.Iic.frame_due.Tie as tie
 
 framed-requires : tie.Need-framed-requires
-framed-requires c κs = search needs
+framed-requires c κs = tt
 
 returns : tie.Need-returns
 returns c = simp (c .before .framed .ensures)

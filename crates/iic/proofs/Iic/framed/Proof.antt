@@ -1,8 +1,6 @@
 use borrow.Author.Needs.{needs}
 use Rattle.iic.proofs.Iic.framed.Statement.{statement}
 use Rattle.iic.proofs.Iic.framed.Tie as tie
-use Rattle.iic.proofs.Iic.framed.Reads as reads
-use Rattle.iic.proofs.Iic.framed.Lts as lts
 
 enum-told : tie.Need-enum-told
 enum-told c = search needs

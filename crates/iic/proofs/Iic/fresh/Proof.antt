@@ -1,9 +1,8 @@
-use borrow.Author.Needs.{needs}
 use Rattle.iic.proofs.Iic.fresh.Statement.{statement}
 use Rattle.iic.proofs.Iic.fresh.Tie as tie
 
 bits-of-requires : tie.Need-bits-of-requires
-bits-of-requires c κs = search needs
+bits-of-requires c κs = tt
 
 returns : tie.Need-returns
 returns c = simp (c .before .bits-of .ensures)

@@ -1,10 +1,9 @@
 use Rattle.iic.specs.Access.{giveDataOf}
-use borrow.Author.Needs.{needs}
 use Rattle.iic.proofs.Iic.give_data.Statement.{statement}
 use Rattle.iic.proofs.Iic.give_data.Tie as tie
 
 ordered-requires : tie.Need-ordered-requires
-ordered-requires c κs = search needs
+ordered-requires c κs = tt
 
 returns : tie.Need-returns
 unfolding giveDataOf

@@ -1,24 +1,23 @@
 use Rattle.iic.specs.Calls.{guardOf}
-use borrow.Author.Needs.{needs}
 use Rattle.iic.proofs.Iic.guard.Statement.{statement}
 use Rattle.iic.proofs.Iic.guard.Tie as tie
 
 has-zero-requires : tie.Need-has-zero-requires
-has-zero-requires c κs = search needs
+has-zero-requires c κs = tt
 
 returns : tie.Need-returns
 unfolding guardOf
 returns c = simp (c .if1 .taken, ← c .before .has-zero .ensures)
 
 ranges-hold-requires : tie.Need-ranges-hold-requires
-ranges-hold-requires c κs = search needs
+ranges-hold-requires c κs = tt
 
 returns-2 : tie.Need-returns-2
 unfolding guardOf
 returns-2 c = simp (c .if2 .taken, ← c .before .ranges-hold .ensures, c .before .before .if1 .left, ← c .before .before .before .has-zero .ensures)
 
 progress-requires : tie.Need-progress-requires
-progress-requires c κs = search needs
+progress-requires c κs = tt
 
 returns-3 : tie.Need-returns-3
 unfolding guardOf

@@ -1,12 +1,11 @@
-use borrow.Author.Needs.{needs}
 use Rattle.iic.proofs.Iic.halves_refusal.Statement.{statement}
 use Rattle.iic.proofs.Iic.halves_refusal.Tie as tie
 
 is-short-requires : tie.Need-is-short-requires
-is-short-requires c κs = search needs
+is-short-requires c κs = tt
 
 is-short-requires-2 : tie.Need-is-short-requires-2
-is-short-requires-2 c κs = search needs
+is-short-requires-2 c κs = tt
 
 returns : tie.Need-returns
 returns c = simp (c .if1 .taken, ← c .before .is-short2 .ensures, ← c .before .before .is-short .ensures)

@@ -1,8 +1,6 @@
 use borrow.Author.Needs.{needs}
 use Rattle.iic.proofs.Iic.held.Statement.{statement}
 use Rattle.iic.proofs.Iic.held.Tie as tie
-use Rattle.iic.proofs.Iic.held.Reads as reads
-use Rattle.iic.proofs.Iic.held.Lts as lts
 
 enum-told : tie.Need-enum-told
 enum-told c = search needs

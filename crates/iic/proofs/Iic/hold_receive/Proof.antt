@@ -1,10 +1,9 @@
 use Rattle.iic.specs.Edges.{holdReceiveOf}
-use borrow.Author.Needs.{needs}
 use Rattle.iic.proofs.Iic.hold_receive.Statement.{statement}
 use Rattle.iic.proofs.Iic.hold_receive.Tie as tie
 
 set-hold-requires : tie.Need-set-hold-requires
-set-hold-requires c κs = search needs
+set-hold-requires c κs = tt
 
 returns : tie.Need-returns
 unfolding holdReceiveOf

@@ -1,13 +1,12 @@
 use Rattle.iic.specs.Edges.{holdTransmitOf}
-use borrow.Author.Needs.{needs}
 use Rattle.iic.proofs.Iic.hold_transmit.Statement.{statement}
 use Rattle.iic.proofs.Iic.hold_transmit.Tie as tie
 
 unclocked-requires : tie.Need-unclocked-requires
-unclocked-requires c κs = search needs
+unclocked-requires c κs = tt
 
 set-hold-requires : tie.Need-set-hold-requires
-set-hold-requires c κs = search needs
+set-hold-requires c κs = tt
 
 returns : tie.Need-returns
 unfolding holdTransmitOf

@@ -1,16 +1,15 @@
 use Rattle.iic.specs.Calls.{inputPinsOf}
-use borrow.Author.Needs.{needs}
 use Rattle.iic.proofs.Iic.input_pins.Statement.{statement}
 use Rattle.iic.proofs.Iic.input_pins.Tie as tie
 
 observes-requires : tie.Need-observes-requires
-observes-requires c κs = search needs
+observes-requires c κs = tt
 
 pins-step-requires : tie.Need-pins-step-requires
-pins-step-requires c κs = search needs
+pins-step-requires c κs = tt
 
 noticed-requires : tie.Need-noticed-requires
-noticed-requires c κs = search needs
+noticed-requires c κs = tt
 
 returns : tie.Need-returns
 unfolding inputPinsOf

@@ -1,19 +1,18 @@
 use Rattle.iic.specs.Edges.{insertWaitOf}
-use borrow.Author.Needs.{needs}
 use Rattle.iic.proofs.Iic.insert_wait.Statement.{statement}
 use Rattle.iic.proofs.Iic.insert_wait.Tie as tie
 
 master-requires : tie.Need-master-requires
-master-requires c κs = search needs
+master-requires c κs = tt
 
 held-requires : tie.Need-held-requires
-held-requires c κs = search needs
+held-requires c κs = tt
 
 longer-requires : tie.Need-longer-requires
-longer-requires c κs = search needs
+longer-requires c κs = tt
 
 fine-requires : tie.Need-fine-requires
-fine-requires c κs = search needs
+fine-requires c κs = tt
 
 returns : tie.Need-returns
 unfolding insertWaitOf

@@ -1,9 +1,8 @@
-use borrow.Author.Needs.{needs}
 use Rattle.iic.proofs.Iic.interrupt.Statement.{statement}
 use Rattle.iic.proofs.Iic.interrupt.Tie as tie
 
 interrupt-with-enable-requires : tie.Need-interrupt-with-enable-requires
-interrupt-with-enable-requires c κs = search needs
+interrupt-with-enable-requires c κs = tt
 
 returns : tie.Need-returns
 returns c = simp (c .interrupt-with-enable .ensures)

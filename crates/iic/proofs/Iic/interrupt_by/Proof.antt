@@ -1,9 +1,8 @@
-use borrow.Author.Needs.{needs}
 use Rattle.iic.proofs.Iic.interrupt_by.Statement.{statement}
 use Rattle.iic.proofs.Iic.interrupt_by.Tie as tie
 
 flag-requires : tie.Need-flag-requires
-flag-requires c κs = search needs
+flag-requires c κs = tt
 
 returns : tie.Need-returns
 returns c = simp (c .before .flag .ensures)

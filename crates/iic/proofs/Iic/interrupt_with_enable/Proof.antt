@@ -1,9 +1,8 @@
-use borrow.Author.Needs.{needs}
 use Rattle.iic.proofs.Iic.interrupt_with_enable.Statement.{statement}
 use Rattle.iic.proofs.Iic.interrupt_with_enable.Tie as tie
 
 interrupt-by-requires : tie.Need-interrupt-by-requires
-interrupt-by-requires c κs = search needs
+interrupt-by-requires c κs = tt
 
 returns : tie.Need-returns
 returns c = simp (c .interrupt-by .ensures)

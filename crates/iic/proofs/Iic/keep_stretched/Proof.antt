@@ -1,13 +1,12 @@
 use Rattle.iic.specs.Calls.{keepStretchedOf}
-use borrow.Author.Needs.{needs}
 use Rattle.iic.proofs.Iic.keep_stretched.Statement.{statement}
 use Rattle.iic.proofs.Iic.keep_stretched.Tie as tie
 
 turn-clock-requires : tie.Need-turn-clock-requires
-turn-clock-requires c κs = search needs
+turn-clock-requires c κs = tt
 
 fine-requires : tie.Need-fine-requires
-fine-requires c κs = search needs
+fine-requires c κs = tt
 
 returns : tie.Need-returns
 unfolding keepStretchedOf

@@ -1,36 +1,35 @@
 use Rattle.iic.specs.Kick.{kickOf}
-use borrow.Author.Needs.{needs}
 use Rattle.iic.proofs.Iic.kick.Statement.{statement}
 use Rattle.iic.proofs.Iic.kick.Tie as tie
 
 ready-requires : tie.Need-ready-requires
-ready-requires c κs = search needs
+ready-requires c κs = tt
 
 fine-requires : tie.Need-fine-requires
-fine-requires c κs = search needs
+fine-requires c κs = tt
 
 returns : tie.Need-returns
 unfolding kickOf
 returns c = simp (c .fine .ensures, c .before .if1 .taken, ← c .before .before .ready .ensures)
 
 command-ready-requires : tie.Need-command-ready-requires
-command-ready-requires c κs = search needs
+command-ready-requires c κs = tt
 
 begin-condition-requires : tie.Need-begin-condition-requires
-begin-condition-requires c κs = search needs
+begin-condition-requires c κs = tt
 
 returns-2 : tie.Need-returns-2
 unfolding kickOf
 returns-2 c = simp (c .begin-condition .ensures, c .before .if2 .taken, ← c .before .before .command-ready .ensures, c .before .before .before .if1 .left, ← c .before .before .before .before .ready .ensures)
 
 next-frame-requires : tie.Need-next-frame-requires
-next-frame-requires c κs = search needs
+next-frame-requires c κs = tt
 
 load-transmit-requires : tie.Need-load-transmit-requires
-load-transmit-requires c κs = search needs
+load-transmit-requires c κs = tt
 
 clock-frame-requires : tie.Need-clock-frame-requires
-clock-frame-requires c κs = search needs
+clock-frame-requires c κs = tt
 
 returns-3 : tie.Need-returns-3
 unfolding kickOf

@@ -1,22 +1,21 @@
 use Rattle.iic.specs.Shift.{lastBitOf}
-use borrow.Author.Needs.{needs}
 use Rattle.iic.proofs.Iic.last_bit.Statement.{statement}
 use Rattle.iic.proofs.Iic.last_bit.Tie as tie
 
 addressed-requires : tie.Need-addressed-requires
-addressed-requires c κs = search needs
+addressed-requires c κs = tt
 
 synchronous-requires : tie.Need-synchronous-requires
-synchronous-requires c κs = search needs
+synchronous-requires c κs = tt
 
 end-synchronous-requires : tie.Need-end-synchronous-requires
-end-synchronous-requires c κs = search needs
+end-synchronous-requires c κs = tt
 
 at-requires : tie.Need-at-requires
-at-requires c κs = search needs
+at-requires c κs = tt
 
 with-frame-requires : tie.Need-with-frame-requires
-with-frame-requires c κs = search needs
+with-frame-requires c κs = tt
 
 returns : tie.Need-returns
 unfolding lastBitOf

@@ -1,39 +1,38 @@
 use Rattle.iic.specs.Kick.{launchOf}
-use borrow.Author.Needs.{needs}
 use Rattle.iic.proofs.Iic.launch.Statement.{statement}
 use Rattle.iic.proofs.Iic.launch.Tie as tie
 
 is-done-requires : tie.Need-is-done-requires
-is-done-requires c κs = search needs
+is-done-requires c κs = tt
 
 fine-requires : tie.Need-fine-requires
-fine-requires c κs = search needs
+fine-requires c κs = tt
 
 returns : tie.Need-returns
 unfolding launchOf
 returns c = simp (c .fine .ensures, c .before .if1 .taken, ← c .before .before .is-done .ensures)
 
 starved-requires : tie.Need-starved-requires
-starved-requires c κs = search needs
+starved-requires c κs = tt
 
 set-hold-requires : tie.Need-set-hold-requires
-set-hold-requires c κs = search needs
+set-hold-requires c κs = tt
 
 fine-requires-2 : tie.Need-fine-requires-2
-fine-requires-2 c κs = search needs
+fine-requires-2 c κs = tt
 
 returns-2 : tie.Need-returns-2
 unfolding launchOf
 returns-2 c = simp (c .fine2 .ensures, ← c .before .set-hold .ensures, c .before .before .if2 .taken, ← c .before .before .before .starved .ensures, c .before .before .before .before .if1 .left, ← c .before .before .before .before .before .is-done .ensures)
 
 level-requires : tie.Need-level-requires
-level-requires c κs = search needs
+level-requires c κs = tt
 
 low-half-requires : tie.Need-low-half-requires
-low-half-requires c κs = search needs
+low-half-requires c κs = tt
 
 start-clock-requires : tie.Need-start-clock-requires
-start-clock-requires c κs = search needs
+start-clock-requires c κs = tt
 
 returns-3 : tie.Need-returns-3
 unfolding launchOf

@@ -9,13 +9,13 @@ enum-told : tie.Need-enum-told
 enum-told c = search needs
 
 fine-requires : tie.Need-fine-requires
-fine-requires c κs = search needs
+fine-requires c κs = tt
 
 returns : tie.Need-returns
 returns c = simp (c .fine .ensures, c .before .enum-told .given .1)
 
 launch-requires : tie.Need-launch-requires
-launch-requires c κs = search needs
+launch-requires c κs = tt
 
 returns-2 : tie.Need-returns-2
 returns-2 c = simp (c .launch .ensures, c .before .before .frame .given .1)

@@ -14,16 +14,16 @@ unfolding loadTransmitOf
 returns c = simp (c .enum-told .given .1)
 
 can-load-requires : tie.Need-can-load-requires
-can-load-requires c κs = search needs
+can-load-requires c κs = tt
 
 filled-requires : tie.Need-filled-requires
-filled-requires c κs = search needs
+filled-requires c κs = tt
 
 raise-requires : tie.Need-raise-requires
-raise-requires c κs = search needs
+raise-requires c κs = tt
 
 with-frame-requires : tie.Need-with-frame-requires
-with-frame-requires c κs = search needs
+with-frame-requires c κs = tt
 
 returns-2 : tie.Need-returns-2
 unfolding loadTransmitOf

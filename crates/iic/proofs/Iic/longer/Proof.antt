@@ -9,13 +9,13 @@ enum-told : tie.Need-enum-told
 enum-told c = search needs
 
 fine-requires : tie.Need-fine-requires
-fine-requires c κs = search needs
+fine-requires c κs = tt
 
 returns : tie.Need-returns
 returns c = simp (c .fine .ensures, c .before .enum-told .given .1)
 
 period-requires : tie.Need-period-requires
-period-requires c κs = search needs
+period-requires c κs = tt
 
 cast-extra : tie.Need-cast-extra
 cast-extra c = search needs
@@ -24,13 +24,13 @@ mul-extra : tie.Need-mul-extra
 mul-extra c = search needs
 
 sum-of-requires : tie.Need-sum-of-requires
-sum-of-requires c κs = search needs
+sum-of-requires c κs = tt
 
 made-half-requires : tie.Need-made-half-requires
-made-half-requires c κs = search needs
+made-half-requires c κs = tt
 
 clock-from-requires : tie.Need-clock-from-requires
-clock-from-requires c κs = search needs
+clock-from-requires c κs = tt
 
 returns-2 : tie.Need-returns-2
 returns-2 c = simp (c .clock-from .ensures, c .before .made-half .ensures, ← c .before .before .sum-of .ensures, ← c .before .before .before .period .ensures, c .before .before .before .before .before .clock-wait .given .1)

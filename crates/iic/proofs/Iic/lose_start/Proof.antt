@@ -1,10 +1,9 @@
 use Rattle.iic.specs.Edges.{loseStartOf}
-use borrow.Author.Needs.{needs}
 use Rattle.iic.proofs.Iic.lose_start.Statement.{statement}
 use Rattle.iic.proofs.Iic.lose_start.Tie as tie
 
 arbitration-lost-requires : tie.Need-arbitration-lost-requires
-arbitration-lost-requires c κs = search needs
+arbitration-lost-requires c κs = tt
 
 returns : tie.Need-returns
 unfolding loseStartOf

@@ -1,13 +1,12 @@
 use Rattle.iic.specs.Shift.{matchedOf}
-use borrow.Author.Needs.{needs}
 use Rattle.iic.proofs.Iic.matched.Statement.{statement}
 use Rattle.iic.proofs.Iic.matched.Tie as tie
 
 is-general-call-requires : tie.Need-is-general-call-requires
-is-general-call-requires c κs = search needs
+is-general-call-requires c κs = tt
 
 select-requires : tie.Need-select-requires
-select-requires c κs = search needs
+select-requires c κs = tt
 
 returns : tie.Need-returns
 unfolding matchedOf

@@ -1,20 +1,19 @@
 use Rattle.iic.specs.Clocking.{monitorStepOf}
-use borrow.Author.Needs.{needs}
 use Rattle.iic.proofs.Iic.monitor_step.Statement.{statement}
 use Rattle.iic.proofs.Iic.monitor_step.Tie as tie
 
 start-monitor-requires : tie.Need-start-monitor-requires
-start-monitor-requires c κs = search needs
+start-monitor-requires c κs = tt
 
 returns : tie.Need-returns
 unfolding monitorStepOf
 returns c = simp (c .start-monitor .ensures, c .before .if1 .taken)
 
 with-monitor-wait-requires : tie.Need-with-monitor-wait-requires
-with-monitor-wait-requires c κs = search needs
+with-monitor-wait-requires c κs = tt
 
 fine-requires : tie.Need-fine-requires
-fine-requires c κs = search needs
+fine-requires c κs = tt
 
 returns-2 : tie.Need-returns-2
 unfolding monitorStepOf

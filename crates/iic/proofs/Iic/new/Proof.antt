@@ -2,8 +2,6 @@ use mathlib.Core.Path.{refl}
 use Rattle.iic.specs.State.{defaultIic}
 use Rattle.iic.proofs.Iic.new.Statement.{statement}
 use Rattle.iic.proofs.Iic.new.Tie as tie
-use Rattle.iic.proofs.Iic.new.Reads as reads
-use Rattle.iic.proofs.Iic.new.Lts as lts
 
 returns : tie.Need-returns
 unfolding defaultIic

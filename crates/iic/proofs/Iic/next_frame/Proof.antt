@@ -1,13 +1,12 @@
 use Rattle.iic.specs.Kick.{nextFrameOf}
-use borrow.Author.Needs.{needs}
 use Rattle.iic.proofs.Iic.next_frame.Statement.{statement}
 use Rattle.iic.proofs.Iic.next_frame.Tie as tie
 
 frame-due-requires : tie.Need-frame-due-requires
-frame-due-requires c κs = search needs
+frame-due-requires c κs = tt
 
 begin-frame-requires : tie.Need-begin-frame-requires
-begin-frame-requires c κs = search needs
+begin-frame-requires c κs = tt
 
 returns : tie.Need-returns
 unfolding nextFrameOf

@@ -1,9 +1,8 @@
-use borrow.Author.Needs.{needs}
 use Rattle.iic.proofs.Iic.note_status.Statement.{statement}
 use Rattle.iic.proofs.Iic.note_status.Tie as tie
 
 fine-requires : tie.Need-fine-requires
-fine-requires c κs = search needs
+fine-requires c κs = tt
 
 returns : tie.Need-returns
 returns c = simp (c .fine .ensures)

@@ -1,10 +1,9 @@
 use Rattle.iic.specs.Shift.{overrunOf}
-use borrow.Author.Needs.{needs}
 use Rattle.iic.proofs.Iic.overrun.Statement.{statement}
 use Rattle.iic.proofs.Iic.overrun.Tie as tie
 
 unclocked-requires : tie.Need-unclocked-requires
-unclocked-requires c κs = search needs
+unclocked-requires c κs = tt
 
 returns : tie.Need-returns
 unfolding overrunOf

@@ -1,13 +1,12 @@
 use Rattle.iic.specs.Calls.{peekOf}
-use borrow.Author.Needs.{needs}
 use Rattle.iic.proofs.Iic.peek.Statement.{statement}
 use Rattle.iic.proofs.Iic.peek.Tie as tie
 
 at-requires : tie.Need-at-requires
-at-requires c κs = search needs
+at-requires c κs = tt
 
 peek-at-requires : tie.Need-peek-at-requires
-peek-at-requires c κs = search needs
+peek-at-requires c κs = tt
 
 returns : tie.Need-returns
 unfolding peekOf

@@ -10,13 +10,13 @@ enum-told-2 : tie.Need-enum-told-2
 enum-told-2 c = search needs
 
 shown-control-requires : tie.Need-shown-control-requires
-shown-control-requires c κs = search needs
+shown-control-requires c κs = tt
 
 enum-told-3 : tie.Need-enum-told-3
 enum-told-3 c = search needs
 
 shown-count-requires : tie.Need-shown-count-requires
-shown-count-requires c κs = search needs
+shown-count-requires c κs = tt
 
 enum-told-4 : tie.Need-enum-told-4
 enum-told-4 c = search needs

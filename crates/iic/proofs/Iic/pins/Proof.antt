@@ -1,9 +1,8 @@
-use borrow.Author.Needs.{needs}
 use Rattle.iic.proofs.Iic.pins.Statement.{statement}
 use Rattle.iic.proofs.Iic.pins.Tie as tie
 
 enabled-requires : tie.Need-enabled-requires
-enabled-requires c κs = search needs
+enabled-requires c κs = tt
 
 returns : tie.Need-returns
 returns c = simp (c .if1 .taken, ← c .before .enabled .ensures)

@@ -1,15 +1,14 @@
-use borrow.Author.Needs.{needs}
 use Rattle.iic.proofs.Iic.pins_step.Statement.{statement}
 use Rattle.iic.proofs.Iic.pins_step.Tie as tie
 
 guard-requires : tie.Need-guard-requires
-guard-requires c κs = search needs
+guard-requires c κs = tt
 
 take-pins-requires : tie.Need-take-pins-requires
-take-pins-requires c κs = search needs
+take-pins-requires c κs = tt
 
 refused-requires : tie.Need-refused-requires
-refused-requires c κs = search needs
+refused-requires c κs = tt
 
 returns : tie.Need-returns
 returns c = simp (c .take-pins .ensures, c .before .if1 .taken, ← c .before .before .guard .ensures)

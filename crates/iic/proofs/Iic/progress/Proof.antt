@@ -1,9 +1,8 @@
-use borrow.Author.Needs.{needs}
 use Rattle.iic.proofs.Iic.progress.Statement.{statement}
 use Rattle.iic.proofs.Iic.progress.Tie as tie
 
 progress-holds-requires : tie.Need-progress-holds-requires
-progress-holds-requires c κs = search needs
+progress-holds-requires c κs = tt
 
 returns : tie.Need-returns
 returns c = simp (c .progress-holds .ensures)

@@ -1,10 +1,9 @@
 use Rattle.iic.specs.Access.{pullSdaOf}
-use borrow.Author.Needs.{needs}
 use Rattle.iic.proofs.Iic.pull_sda.Statement.{statement}
 use Rattle.iic.proofs.Iic.pull_sda.Tie as tie
 
 drive-sda-requires : tie.Need-drive-sda-requires
-drive-sda-requires c κs = search needs
+drive-sda-requires c κs = tt
 
 returns : tie.Need-returns
 unfolding pullSdaOf

@@ -1,16 +1,15 @@
 use Rattle.iic.specs.Calls.{readOf}
-use borrow.Author.Needs.{needs}
 use Rattle.iic.proofs.Iic.read.Statement.{statement}
 use Rattle.iic.proofs.Iic.read.Tie as tie
 
 peek-requires : tie.Need-peek-requires
-peek-requires c κs = search needs
+peek-requires c κs = tt
 
 read-step-requires : tie.Need-read-step-requires
-read-step-requires c κs = search needs
+read-step-requires c κs = tt
 
 answered-requires : tie.Need-answered-requires
-answered-requires c κs = search needs
+answered-requires c κs = tt
 
 returns : tie.Need-returns
 unfolding readOf

@@ -7,49 +7,49 @@ enum-told : tie.Need-enum-told
 enum-told c = search needs
 
 fine-requires : tie.Need-fine-requires
-fine-requires c κs = search needs
+fine-requires c κs = tt
 
 enum-told-2 : tie.Need-enum-told-2
 enum-told-2 c = search needs
 
 fine-requires-2 : tie.Need-fine-requires-2
-fine-requires-2 c κs = search needs
+fine-requires-2 c κs = tt
 
 enum-told-3 : tie.Need-enum-told-3
 enum-told-3 c = search needs
 
 fine-requires-3 : tie.Need-fine-requires-3
-fine-requires-3 c κs = search needs
+fine-requires-3 c κs = tt
 
 enum-told-4 : tie.Need-enum-told-4
 enum-told-4 c = search needs
 
 fine-requires-4 : tie.Need-fine-requires-4
-fine-requires-4 c κs = search needs
+fine-requires-4 c κs = tt
 
 enum-told-5 : tie.Need-enum-told-5
 enum-told-5 c = search needs
 
 note-status-requires : tie.Need-note-status-requires
-note-status-requires c κs = search needs
+note-status-requires c κs = tt
 
 enum-told-6 : tie.Need-enum-told-6
 enum-told-6 c = search needs
 
 fine-requires-5 : tie.Need-fine-requires-5
-fine-requires-5 c κs = search needs
+fine-requires-5 c κs = tt
 
 enum-told-7 : tie.Need-enum-told-7
 enum-told-7 c = search needs
 
 fine-requires-6 : tie.Need-fine-requires-6
-fine-requires-6 c κs = search needs
+fine-requires-6 c κs = tt
 
 enum-told-8 : tie.Need-enum-told-8
 enum-told-8 c = search needs
 
 read-data-requires : tie.Need-read-data-requires
-read-data-requires c κs = search needs
+read-data-requires c κs = tt
 
 returns : tie.Need-returns
 unfolding readAt

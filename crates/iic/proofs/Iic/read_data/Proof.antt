@@ -1,29 +1,28 @@
 use Rattle.iic.specs.Access.{readDataOf}
-use borrow.Author.Needs.{needs}
 use Rattle.iic.proofs.Iic.read_data.Statement.{statement}
 use Rattle.iic.proofs.Iic.read_data.Tie as tie
 
 taken-requires : tie.Need-taken-requires
-taken-requires c κs = search needs
+taken-requires c κs = tt
 
 transmit-requires : tie.Need-transmit-requires
-transmit-requires c κs = search needs
+transmit-requires c κs = tt
 
 fine-requires : tie.Need-fine-requires
-fine-requires c κs = search needs
+fine-requires c κs = tt
 
 returns : tie.Need-returns
 unfolding readDataOf
 returns c = simp (c .fine .ensures, c .before .if1 .taken, ← c .before .before .transmit .ensures, ← c .before .before .before .taken .ensures)
 
 continued-requires : tie.Need-continued-requires
-continued-requires c κs = search needs
+continued-requires c κs = tt
 
 resumed-requires : tie.Need-resumed-requires
-resumed-requires c κs = search needs
+resumed-requires c κs = tt
 
 then-kick-requires : tie.Need-then-kick-requires
-then-kick-requires c κs = search needs
+then-kick-requires c κs = tt
 
 returns-2 : tie.Need-returns-2
 unfolding readDataOf

@@ -1,18 +1,17 @@
-use borrow.Author.Needs.{needs}
 use Rattle.iic.proofs.Iic.read_step.Statement.{statement}
 use Rattle.iic.proofs.Iic.read_step.Tie as tie
 
 guard-requires : tie.Need-guard-requires
-guard-requires c κs = search needs
+guard-requires c κs = tt
 
 at-requires : tie.Need-at-requires
-at-requires c κs = search needs
+at-requires c κs = tt
 
 read-at-requires : tie.Need-read-at-requires
-read-at-requires c κs = search needs
+read-at-requires c κs = tt
 
 refused-requires : tie.Need-refused-requires
-refused-requires c κs = search needs
+refused-requires c κs = tt
 
 returns : tie.Need-returns
 returns c = simp (c .read-at .ensures, ← c .before .at .ensures, c .before .before .if1 .taken, ← c .before .before .before .guard .ensures)

@@ -1,12 +1,11 @@
-use borrow.Author.Needs.{needs}
 use Rattle.iic.proofs.Iic.ready.Statement.{statement}
 use Rattle.iic.proofs.Iic.ready.Tie as tie
 
 awake-requires : tie.Need-awake-requires
-awake-requires c κs = search needs
+awake-requires c κs = tt
 
 conditioned-requires : tie.Need-conditioned-requires
-conditioned-requires c κs = search needs
+conditioned-requires c κs = tt
 
 returns : tie.Need-returns
 returns c = simp (c .conditioned .ensures, ← c .before .before .awake .ensures)

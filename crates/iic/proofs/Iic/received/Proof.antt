@@ -1,13 +1,12 @@
 use Rattle.iic.specs.Shift.{receivedOf}
-use borrow.Author.Needs.{needs}
 use Rattle.iic.proofs.Iic.received.Statement.{statement}
 use Rattle.iic.proofs.Iic.received.Tie as tie
 
 overrun-requires : tie.Need-overrun-requires
-overrun-requires c κs = search needs
+overrun-requires c κs = tt
 
 stored-requires : tie.Need-stored-requires
-stored-requires c κs = search needs
+stored-requires c κs = tt
 
 returns : tie.Need-returns
 unfolding receivedOf

@@ -1,9 +1,8 @@
-use borrow.Author.Needs.{needs}
 use Rattle.iic.proofs.Iic.receives.Statement.{statement}
 use Rattle.iic.proofs.Iic.receives.Tie as tie
 
 is-read-requires : tie.Need-is-read-requires
-is-read-requires c κs = search needs
+is-read-requires c κs = tt
 
 returns : tie.Need-returns
 returns c = simp (c .before .is-read .ensures)

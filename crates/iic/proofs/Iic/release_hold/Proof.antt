@@ -1,16 +1,15 @@
 use Rattle.iic.specs.Kick.{releaseHoldOf}
-use borrow.Author.Needs.{needs}
 use Rattle.iic.proofs.Iic.release_hold.Statement.{statement}
 use Rattle.iic.proofs.Iic.release_hold.Tie as tie
 
 with-hold-requires : tie.Need-with-hold-requires
-with-hold-requires c κs = search needs
+with-hold-requires c κs = tt
 
 wait-after-hold-requires : tie.Need-wait-after-hold-requires
-wait-after-hold-requires c κs = search needs
+wait-after-hold-requires c κs = tt
 
 then-show-requires : tie.Need-then-show-requires
-then-show-requires c κs = search needs
+then-show-requires c κs = tt
 
 returns : tie.Need-returns
 unfolding releaseHoldOf

@@ -1,10 +1,9 @@
 use Rattle.iic.specs.Edges.{releaseSdaOf}
-use borrow.Author.Needs.{needs}
 use Rattle.iic.proofs.Iic.release_sda.Statement.{statement}
 use Rattle.iic.proofs.Iic.release_sda.Tie as tie
 
 drive-sda-requires : tie.Need-drive-sda-requires
-drive-sda-requires c κs = search needs
+drive-sda-requires c κs = tt
 
 returns : tie.Need-returns
 unfolding releaseSdaOf

@@ -6,7 +6,7 @@ enum-told : tie.Need-enum-told
 enum-told c = search needs
 
 data-level-requires : tie.Need-data-level-requires
-data-level-requires c κs = search needs
+data-level-requires c κs = tt
 
 enum-told-2 : tie.Need-enum-told-2
 enum-told-2 c = search needs
@@ -15,7 +15,7 @@ enum-told-3 : tie.Need-enum-told-3
 enum-told-3 c = search needs
 
 data-level-requires-2 : tie.Need-data-level-requires-2
-data-level-requires-2 c κs = search needs
+data-level-requires-2 c κs = tt
 
 returns : tie.Need-returns
 returns c = simp (c .data-level .ensures, c .before .enum-told .given .1)

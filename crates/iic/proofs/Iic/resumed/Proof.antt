@@ -1,16 +1,15 @@
 use Rattle.iic.specs.Access.{resumedOf}
-use borrow.Author.Needs.{needs}
 use Rattle.iic.proofs.Iic.resumed.Statement.{statement}
 use Rattle.iic.proofs.Iic.resumed.Tie as tie
 
 held-requires : tie.Need-held-requires
-held-requires c κs = search needs
+held-requires c κs = tt
 
 release-hold-requires : tie.Need-release-hold-requires
-release-hold-requires c κs = search needs
+release-hold-requires c κs = tt
 
 fine-requires : tie.Need-fine-requires
-fine-requires c κs = search needs
+fine-requires c κs = tt
 
 returns : tie.Need-returns
 unfolding resumedOf

@@ -21,13 +21,13 @@ enum-told-2 : tie.Need-enum-told-2
 enum-told-2 c = search needs
 
 rising-data-requires : tie.Need-rising-data-requires
-rising-data-requires c κs = search needs
+rising-data-requires c κs = tt
 
 enum-told-3 : tie.Need-enum-told-3
 enum-told-3 c = search needs
 
 rising-ack-requires : tie.Need-rising-ack-requires
-rising-ack-requires c κs = search needs
+rising-ack-requires c κs = tt
 
 enum-told-4 : tie.Need-enum-told-4
 enum-told-4 c = search needs

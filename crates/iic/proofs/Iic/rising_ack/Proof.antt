@@ -1,16 +1,15 @@
 use Rattle.iic.specs.Shift.{risingAckOf}
-use borrow.Author.Needs.{needs}
 use Rattle.iic.proofs.Iic.rising_ack.Statement.{statement}
 use Rattle.iic.proofs.Iic.rising_ack.Tie as tie
 
 complete-frame-requires : tie.Need-complete-frame-requires
-complete-frame-requires c κs = search needs
+complete-frame-requires c κs = tt
 
 at-requires : tie.Need-at-requires
-at-requires c κs = search needs
+at-requires c κs = tt
 
 with-frame-requires : tie.Need-with-frame-requires
-with-frame-requires c κs = search needs
+with-frame-requires c κs = tt
 
 returns : tie.Need-returns
 unfolding risingAckOf

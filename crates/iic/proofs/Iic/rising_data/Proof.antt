@@ -1,22 +1,21 @@
 use Rattle.iic.specs.Shift.{risingDataOf}
-use borrow.Author.Needs.{needs}
 use Rattle.iic.proofs.Iic.rising_data.Statement.{statement}
 use Rattle.iic.proofs.Iic.rising_data.Tie as tie
 
 loses-requires : tie.Need-loses-requires
-loses-requires c κs = search needs
+loses-requires c κs = tt
 
 when-lost-requires : tie.Need-when-lost-requires
-when-lost-requires c κs = search needs
+when-lost-requires c κs = tt
 
 sampled-requires : tie.Need-sampled-requires
-sampled-requires c κs = search needs
+sampled-requires c κs = tt
 
 last-bit-requires : tie.Need-last-bit-requires
-last-bit-requires c κs = search needs
+last-bit-requires c κs = tt
 
 with-frame-requires : tie.Need-with-frame-requires
-with-frame-requires c κs = search needs
+with-frame-requires c κs = tt
 
 returns : tie.Need-returns
 unfolding risingDataOf

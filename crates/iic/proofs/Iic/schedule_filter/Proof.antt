@@ -1,22 +1,21 @@
-use Rattle.iic.specs.Waits.{scheduleFilterOf}
-use borrow.Author.Needs.{needs}
+use Rattle.iic.specs.Waiting.{scheduleFilterOf}
 use Rattle.iic.proofs.Iic.schedule_filter.Statement.{statement}
 use Rattle.iic.proofs.Iic.schedule_filter.Tie as tie
 
 wants-filter-requires : tie.Need-wants-filter-requires
-wants-filter-requires c κs = search needs
+wants-filter-requires c κs = tt
 
 system-requires : tie.Need-system-requires
-system-requires c κs = search needs
+system-requires c κs = tt
 
 after-requires : tie.Need-after-requires
-after-requires c κs = search needs
+after-requires c κs = tt
 
 filter-from-requires : tie.Need-filter-from-requires
-filter-from-requires c κs = search needs
+filter-from-requires c κs = tt
 
 fine-requires : tie.Need-fine-requires
-fine-requires c κs = search needs
+fine-requires c κs = tt
 
 returns : tie.Need-returns
 unfolding scheduleFilterOf

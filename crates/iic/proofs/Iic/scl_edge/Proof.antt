@@ -1,27 +1,26 @@
 use Rattle.iic.specs.Edges.{sclEdgeOf}
-use borrow.Author.Needs.{needs}
 use Rattle.iic.proofs.Iic.scl_edge.Statement.{statement}
 use Rattle.iic.proofs.Iic.scl_edge.Tie as tie
 
 rising-requires : tie.Need-rising-requires
-rising-requires c κs = search needs
+rising-requires c κs = tt
 
 fine-requires : tie.Need-fine-requires
-fine-requires c κs = search needs
+fine-requires c κs = tt
 
 returns : tie.Need-returns
 unfolding sclEdgeOf
 returns c = simp (c .fine .ensures, ← c .before .rising .ensures, c .before .before .if1 .taken)
 
 falling-requires : tie.Need-falling-requires
-falling-requires c κs = search needs
+falling-requires c κs = tt
 
 returns-2 : tie.Need-returns-2
 unfolding sclEdgeOf
 returns-2 c = simp (c .falling .ensures, c .before .if2 .taken, c .before .before .before .if1 .left)
 
 fine-requires-2 : tie.Need-fine-requires-2
-fine-requires-2 c κs = search needs
+fine-requires-2 c κs = tt
 
 returns-3 : tie.Need-returns-3
 unfolding sclEdgeOf

@@ -1,22 +1,21 @@
 use Rattle.iic.specs.Shift.{selectOf}
-use borrow.Author.Needs.{needs}
 use Rattle.iic.proofs.Iic.select.Statement.{statement}
 use Rattle.iic.proofs.Iic.select.Tie as tie
 
 is-general-call-requires : tie.Need-is-general-call-requires
-is-general-call-requires c κs = search needs
+is-general-call-requires c κs = tt
 
 is-read-requires : tie.Need-is-read-requires
-is-read-requires c κs = search needs
+is-read-requires c κs = tt
 
 flag-requires : tie.Need-flag-requires
-flag-requires c κs = search needs
+flag-requires c κs = tt
 
 flag-requires-2 : tie.Need-flag-requires-2
-flag-requires-2 c κs = search needs
+flag-requires-2 c κs = tt
 
 flag-requires-3 : tie.Need-flag-requires-3
-flag-requires-3 c κs = search needs
+flag-requires-3 c κs = tt
 
 returns : tie.Need-returns
 unfolding selectOf

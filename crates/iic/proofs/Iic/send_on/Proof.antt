@@ -1,19 +1,18 @@
 use Rattle.iic.specs.Access.{sendOnOf}
-use borrow.Author.Needs.{needs}
 use Rattle.iic.proofs.Iic.send_on.Statement.{statement}
 use Rattle.iic.proofs.Iic.send_on.Tie as tie
 
 is-transmit-requires : tie.Need-is-transmit-requires
-is-transmit-requires c κs = search needs
+is-transmit-requires c κs = tt
 
 load-transmit-requires : tie.Need-load-transmit-requires
-load-transmit-requires c κs = search needs
+load-transmit-requires c κs = tt
 
 release-hold-requires : tie.Need-release-hold-requires
-release-hold-requires c κs = search needs
+release-hold-requires c κs = tt
 
 fine-requires : tie.Need-fine-requires
-fine-requires c κs = search needs
+fine-requires c κs = tt
 
 returns : tie.Need-returns
 unfolding sendOnOf

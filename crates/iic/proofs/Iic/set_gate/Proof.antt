@@ -1,16 +1,15 @@
 use Rattle.iic.specs.Calls.{setGateOf}
-use borrow.Author.Needs.{needs}
 use Rattle.iic.proofs.Iic.set_gate.Statement.{statement}
 use Rattle.iic.proofs.Iic.set_gate.Tie as tie
 
 guard-requires : tie.Need-guard-requires
-guard-requires c κs = search needs
+guard-requires c κs = tt
 
 turn-gate-requires : tie.Need-turn-gate-requires
-turn-gate-requires c κs = search needs
+turn-gate-requires c κs = tt
 
 refused-requires : tie.Need-refused-requires
-refused-requires c κs = search needs
+refused-requires c κs = tt
 
 returns : tie.Need-returns
 unfolding setGateOf

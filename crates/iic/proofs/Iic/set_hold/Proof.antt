@@ -1,23 +1,22 @@
 use Rattle.iic.specs.Shift.{setHoldOf}
-use borrow.Author.Needs.{needs}
 use Rattle.iic.proofs.Iic.set_hold.Statement.{statement}
 use Rattle.iic.proofs.Iic.set_hold.Tie as tie
 
 synchronous-requires : tie.Need-synchronous-requires
-synchronous-requires c κs = search needs
+synchronous-requires c κs = tt
 
 returns : tie.Need-returns
 unfolding setHoldOf
 returns c = simp (c .if1 .taken, ← c .before .synchronous .ensures)
 
 unclocked-requires : tie.Need-unclocked-requires
-unclocked-requires c κs = search needs
+unclocked-requires c κs = tt
 
 drive-scl-requires : tie.Need-drive-scl-requires
-drive-scl-requires c κs = search needs
+drive-scl-requires c κs = tt
 
 with-hold-requires : tie.Need-with-hold-requires
-with-hold-requires c κs = search needs
+with-hold-requires c κs = tt
 
 returns-2 : tie.Need-returns-2
 unfolding setHoldOf

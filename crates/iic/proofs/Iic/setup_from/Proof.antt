@@ -6,16 +6,16 @@ enum-known-made : tie.Need-enum-known-made
 enum-known-made c = search needs
 
 with-setup-wait-requires : tie.Need-with-setup-wait-requires
-with-setup-wait-requires c κs = search needs
+with-setup-wait-requires c κs = tt
 
 fine-requires : tie.Need-fine-requires
-fine-requires c κs = search needs
+fine-requires c κs = tt
 
 enum-known-made-2 : tie.Need-enum-known-made-2
 enum-known-made-2 c = search needs
 
 refused-requires : tie.Need-refused-requires
-refused-requires c κs = search needs
+refused-requires c κs = tt
 
 returns : tie.Need-returns
 returns c = simp (c .fine .ensures, c .before .with-setup-wait .ensures, c .before .before .before .made .given .1)

@@ -14,10 +14,10 @@ unfolding showOf
 returns c = simp (c .enum-told .given .1)
 
 released-level-requires : tie.Need-released-level-requires
-released-level-requires c κs = search needs
+released-level-requires c κs = tt
 
 drive-sda-requires : tie.Need-drive-sda-requires
-drive-sda-requires c κs = search needs
+drive-sda-requires c κs = tt
 
 returns-2 : tie.Need-returns-2
 unfolding showOf

@@ -1,19 +1,19 @@
-use Rattle.iic.specs.Waits.{startClockOf}
+use Rattle.iic.specs.Waiting.{startClockOf}
 use borrow.Author.Needs.{needs}
 use Rattle.iic.proofs.Iic.start_clock.Statement.{statement}
 use Rattle.iic.proofs.Iic.start_clock.Tie as tie
 
 period-requires : tie.Need-period-requires
-period-requires c κs = search needs
+period-requires c κs = tt
 
 cast-halves : tie.Need-cast-halves
 cast-halves c = search needs
 
 after-requires : tie.Need-after-requires
-after-requires c κs = search needs
+after-requires c κs = tt
 
 clock-from-requires : tie.Need-clock-from-requires
-clock-from-requires c κs = search needs
+clock-from-requires c κs = tt
 
 returns : tie.Need-returns
 unfolding startClockOf

@@ -1,23 +1,22 @@
 use Rattle.iic.specs.Edges.{startHighOf}
-use borrow.Author.Needs.{needs}
 use Rattle.iic.proofs.Iic.start_high.Statement.{statement}
 use Rattle.iic.proofs.Iic.start_high.Tie as tie
 
 drive-sda-requires : tie.Need-drive-sda-requires
-drive-sda-requires c κs = search needs
+drive-sda-requires c κs = tt
 
 with-condition-requires : tie.Need-with-condition-requires
-with-condition-requires c κs = search needs
+with-condition-requires c κs = tt
 
 start-clock-requires : tie.Need-start-clock-requires
-start-clock-requires c κs = search needs
+start-clock-requires c κs = tt
 
 returns : tie.Need-returns
 unfolding startHighOf
 returns c = simp (c .start-clock .ensures, c .before .with-condition .ensures, c .before .before .drive-sda .ensures, c .before .before .before .if1 .taken)
 
 fine-requires : tie.Need-fine-requires
-fine-requires c κs = search needs
+fine-requires c κs = tt
 
 returns-2 : tie.Need-returns-2
 unfolding startHighOf

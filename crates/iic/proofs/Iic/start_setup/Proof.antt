@@ -1,22 +1,22 @@
-use Rattle.iic.specs.Waits.{startSetupOf}
+use Rattle.iic.specs.Waiting.{startSetupOf}
 use borrow.Author.Needs.{needs}
 use Rattle.iic.proofs.Iic.start_setup.Statement.{statement}
 use Rattle.iic.proofs.Iic.start_setup.Tie as tie
 
 setup-cycles-requires : tie.Need-setup-cycles-requires
-setup-cycles-requires c κs = search needs
+setup-cycles-requires c κs = tt
 
 cast-cycles : tie.Need-cast-cycles
 cast-cycles c = search needs
 
 system-requires : tie.Need-system-requires
-system-requires c κs = search needs
+system-requires c κs = tt
 
 after-requires : tie.Need-after-requires
-after-requires c κs = search needs
+after-requires c κs = tt
 
 setup-from-requires : tie.Need-setup-from-requires
-setup-from-requires c κs = search needs
+setup-from-requires c κs = tt
 
 returns : tie.Need-returns
 unfolding startSetupOf

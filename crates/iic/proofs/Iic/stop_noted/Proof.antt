@@ -1,12 +1,11 @@
-use borrow.Author.Needs.{needs}
 use Rattle.iic.proofs.Iic.stop_noted.Statement.{statement}
 use Rattle.iic.proofs.Iic.stop_noted.Tie as tie
 
 flag-requires : tie.Need-flag-requires
-flag-requires c κs = search needs
+flag-requires c κs = tt
 
 raise-requires : tie.Need-raise-requires
-raise-requires c κs = search needs
+raise-requires c κs = tt
 
 returns : tie.Need-returns
 returns c = simp (c .raise .ensures, c .before .flag .ensures)

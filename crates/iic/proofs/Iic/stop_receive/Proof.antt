@@ -1,10 +1,9 @@
 use Rattle.iic.specs.Access.{stopReceiveOf}
-use borrow.Author.Needs.{needs}
 use Rattle.iic.proofs.Iic.stop_receive.Statement.{statement}
 use Rattle.iic.proofs.Iic.stop_receive.Tie as tie
 
 framed-requires : tie.Need-framed-requires
-framed-requires c κs = search needs
+framed-requires c κs = tt
 
 returns : tie.Need-returns
 unfolding stopReceiveOf

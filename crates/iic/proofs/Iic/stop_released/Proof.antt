@@ -1,12 +1,11 @@
-use borrow.Author.Needs.{needs}
 use Rattle.iic.proofs.Iic.stop_released.Statement.{statement}
 use Rattle.iic.proofs.Iic.stop_released.Tie as tie
 
 with-frame-requires : tie.Need-with-frame-requires
-with-frame-requires c κs = search needs
+with-frame-requires c κs = tt
 
 with-condition-requires : tie.Need-with-condition-requires
-with-condition-requires c κs = search needs
+with-condition-requires c κs = tt
 
 returns : tie.Need-returns
 returns c = simp (c .with-condition .ensures, c .before .with-frame .ensures)

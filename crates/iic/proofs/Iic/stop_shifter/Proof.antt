@@ -2,8 +2,6 @@ use mathlib.Core.Path.{refl}
 use Rattle.iic.specs.State.{stopShifterOf}
 use Rattle.iic.proofs.Iic.stop_shifter.Statement.{statement}
 use Rattle.iic.proofs.Iic.stop_shifter.Tie as tie
-use Rattle.iic.proofs.Iic.stop_shifter.Reads as reads
-use Rattle.iic.proofs.Iic.stop_shifter.Lts as lts
 
 returns : tie.Need-returns
 unfolding stopShifterOf

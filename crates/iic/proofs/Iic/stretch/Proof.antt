@@ -1,20 +1,19 @@
 use Rattle.iic.specs.Clocking.{stretchOf}
-use borrow.Author.Needs.{needs}
 use Rattle.iic.proofs.Iic.stretch.Statement.{statement}
 use Rattle.iic.proofs.Iic.stretch.Tie as tie
 
 fine-requires : tie.Need-fine-requires
-fine-requires c κs = search needs
+fine-requires c κs = tt
 
 returns : tie.Need-returns
 unfolding stretchOf
 returns c = simp (c .fine .ensures, c .before .if1 .taken)
 
 turn-clock-requires : tie.Need-turn-clock-requires
-turn-clock-requires c κs = search needs
+turn-clock-requires c κs = tt
 
 then-stretched-requires : tie.Need-then-stretched-requires
-then-stretched-requires c κs = search needs
+then-stretched-requires c κs = tt
 
 returns-2 : tie.Need-returns-2
 unfolding stretchOf

@@ -1,17 +1,16 @@
 use Rattle.iic.specs.Edges.{stretchedOf}
-use borrow.Author.Needs.{needs}
 use Rattle.iic.proofs.Iic.stretched.Statement.{statement}
 use Rattle.iic.proofs.Iic.stretched.Tie as tie
 
 turn-clock-requires : tie.Need-turn-clock-requires
-turn-clock-requires c κs = search needs
+turn-clock-requires c κs = tt
 
 returns : tie.Need-returns
 unfolding stretchedOf
 returns c = simp (c .turn-clock .ensures, c .before .before .if1 .taken)
 
 fine-requires : tie.Need-fine-requires
-fine-requires c κs = search needs
+fine-requires c κs = tt
 
 returns-2 : tie.Need-returns-2
 unfolding stretchedOf

@@ -1,13 +1,12 @@
 use Rattle.iic.specs.Access.{takeControlOf}
-use borrow.Author.Needs.{needs}
 use Rattle.iic.proofs.Iic.take_control.Statement.{statement}
 use Rattle.iic.proofs.Iic.take_control.Tie as tie
 
 control-set-requires : tie.Need-control-set-requires
-control-set-requires c κs = search needs
+control-set-requires c κs = tt
 
 redirect-requires : tie.Need-redirect-requires
-redirect-requires c κs = search needs
+redirect-requires c κs = tt
 
 returns : tie.Need-returns
 unfolding takeControlOf

@@ -1,20 +1,19 @@
 use Rattle.iic.specs.Calls.{takePinsOf}
-use borrow.Author.Needs.{needs}
 use Rattle.iic.proofs.Iic.take_pins.Statement.{statement}
 use Rattle.iic.proofs.Iic.take_pins.Tie as tie
 
 same-levels-requires : tie.Need-same-levels-requires
-same-levels-requires c κs = search needs
+same-levels-requires c κs = tt
 
 fine-requires : tie.Need-fine-requires
-fine-requires c κs = search needs
+fine-requires c κs = tt
 
 returns : tie.Need-returns
 unfolding takePinsOf
 returns c = simp (c .fine .ensures, c .before .if1 .taken, ← c .before .before .same-levels .ensures)
 
 schedule-filter-requires : tie.Need-schedule-filter-requires
-schedule-filter-requires c κs = search needs
+schedule-filter-requires c κs = tt
 
 returns-2 : tie.Need-returns-2
 unfolding takePinsOf

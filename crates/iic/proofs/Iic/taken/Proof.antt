@@ -1,10 +1,9 @@
 use Rattle.iic.specs.Access.{takenOf}
-use borrow.Author.Needs.{needs}
 use Rattle.iic.proofs.Iic.taken.Statement.{statement}
 use Rattle.iic.proofs.Iic.taken.Tie as tie
 
 fell-at-requires : tie.Need-fell-at-requires
-fell-at-requires c κs = search needs
+fell-at-requires c κs = tt
 
 returns : tie.Need-returns
 unfolding takenOf

@@ -1,29 +1,28 @@
 use Rattle.iic.specs.Clocking.{toggleOf}
-use borrow.Author.Needs.{needs}
 use Rattle.iic.proofs.Iic.toggle.Statement.{statement}
 use Rattle.iic.proofs.Iic.toggle.Tie as tie
 
 master-requires : tie.Need-master-requires
-master-requires c κs = search needs
+master-requires c κs = tt
 
 held-requires : tie.Need-held-requires
-held-requires c κs = search needs
+held-requires c κs = tt
 
 drive-scl-requires : tie.Need-drive-scl-requires
-drive-scl-requires c κs = search needs
+drive-scl-requires c κs = tt
 
 start-clock-requires : tie.Need-start-clock-requires
-start-clock-requires c κs = search needs
+start-clock-requires c κs = tt
 
 then-monitor-step-requires : tie.Need-then-monitor-step-requires
-then-monitor-step-requires c κs = search needs
+then-monitor-step-requires c κs = tt
 
 returns : tie.Need-returns
 unfolding toggleOf
 returns c = simp (c .then-monitor-step .ensures, c .before .start-clock .ensures, c .before .before .drive-scl .ensures, c .before .before .before .before .if1 .taken, ← c .before .before .before .before .before .held .ensures, ← c .before .before .before .before .before .before .master .ensures)
 
 fine-requires : tie.Need-fine-requires
-fine-requires c κs = search needs
+fine-requires c κs = tt
 
 returns-2 : tie.Need-returns-2
 unfolding toggleOf

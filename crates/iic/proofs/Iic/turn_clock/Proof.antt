@@ -1,4 +1,4 @@
-use Rattle.iic.specs.Waits.{turnClockOf}
+use Rattle.iic.specs.Waiting.{turnClockOf}
 use borrow.Author.Needs.{needs}
 use Rattle.iic.proofs.Iic.turn_clock.Statement.{statement}
 use Rattle.iic.proofs.Iic.turn_clock.Tie as tie
@@ -7,16 +7,16 @@ enum-told : tie.Need-enum-told
 enum-told c = search needs
 
 fine-requires : tie.Need-fine-requires
-fine-requires c κs = search needs
+fine-requires c κs = tt
 
 enum-known-clock-wait : tie.Need-enum-known-clock-wait
 enum-known-clock-wait c = search needs
 
 turn-half-requires : tie.Need-turn-half-requires
-turn-half-requires c κs = search needs
+turn-half-requires c κs = tt
 
 clock-from-requires : tie.Need-clock-from-requires
-clock-from-requires c κs = search needs
+clock-from-requires c κs = tt
 
 returns : tie.Need-returns
 unfolding turnClockOf

@@ -1,4 +1,4 @@
-use Rattle.iic.specs.Waits.{turnFilterOf}
+use Rattle.iic.specs.Waiting.{turnFilterOf}
 use borrow.Author.Needs.{needs}
 use Rattle.iic.proofs.Iic.turn_filter.Statement.{statement}
 use Rattle.iic.proofs.Iic.turn_filter.Tie as tie
@@ -7,16 +7,16 @@ enum-told : tie.Need-enum-told
 enum-told c = search needs
 
 fine-requires : tie.Need-fine-requires
-fine-requires c κs = search needs
+fine-requires c κs = tt
 
 enum-known-filter-wait : tie.Need-enum-known-filter-wait
 enum-known-filter-wait c = search needs
 
 turn-wait-requires : tie.Need-turn-wait-requires
-turn-wait-requires c κs = search needs
+turn-wait-requires c κs = tt
 
 filter-from-requires : tie.Need-filter-from-requires
-filter-from-requires c κs = search needs
+filter-from-requires c κs = tt
 
 returns : tie.Need-returns
 unfolding turnFilterOf

@@ -1,17 +1,16 @@
 use Rattle.iic.specs.Calls.{turnGateOf}
-use borrow.Author.Needs.{needs}
 use Rattle.iic.proofs.Iic.turn_gate.Statement.{statement}
 use Rattle.iic.proofs.Iic.turn_gate.Tie as tie
 
 fine-requires : tie.Need-fine-requires
-fine-requires c κs = search needs
+fine-requires c κs = tt
 
 returns : tie.Need-returns
 unfolding turnGateOf
 returns c = simp (c .fine .ensures, c .before .if1 .taken)
 
 gate-turned-requires : tie.Need-gate-turned-requires
-gate-turned-requires c κs = search needs
+gate-turned-requires c κs = tt
 
 returns-2 : tie.Need-returns-2
 unfolding turnGateOf

@@ -1,4 +1,4 @@
-use Rattle.iic.specs.Waits.{turnMonitorOf}
+use Rattle.iic.specs.Waiting.{turnMonitorOf}
 use borrow.Author.Needs.{needs}
 use Rattle.iic.proofs.Iic.turn_monitor.Statement.{statement}
 use Rattle.iic.proofs.Iic.turn_monitor.Tie as tie
@@ -7,16 +7,16 @@ enum-told : tie.Need-enum-told
 enum-told c = search needs
 
 fine-requires : tie.Need-fine-requires
-fine-requires c κs = search needs
+fine-requires c κs = tt
 
 enum-known-monitor-wait : tie.Need-enum-known-monitor-wait
 enum-known-monitor-wait c = search needs
 
 turn-half-requires : tie.Need-turn-half-requires
-turn-half-requires c κs = search needs
+turn-half-requires c κs = tt
 
 monitor-from-requires : tie.Need-monitor-from-requires
-monitor-from-requires c κs = search needs
+monitor-from-requires c κs = tt
 
 returns : tie.Need-returns
 unfolding turnMonitorOf

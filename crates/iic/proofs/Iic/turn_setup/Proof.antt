@@ -1,4 +1,4 @@
-use Rattle.iic.specs.Waits.{turnSetupOf}
+use Rattle.iic.specs.Waiting.{turnSetupOf}
 use borrow.Author.Needs.{needs}
 use Rattle.iic.proofs.Iic.turn_setup.Statement.{statement}
 use Rattle.iic.proofs.Iic.turn_setup.Tie as tie
@@ -7,16 +7,16 @@ enum-told : tie.Need-enum-told
 enum-told c = search needs
 
 fine-requires : tie.Need-fine-requires
-fine-requires c κs = search needs
+fine-requires c κs = tt
 
 enum-known-setup-wait : tie.Need-enum-known-setup-wait
 enum-known-setup-wait c = search needs
 
 turn-wait-requires : tie.Need-turn-wait-requires
-turn-wait-requires c κs = search needs
+turn-wait-requires c κs = tt
 
 setup-from-requires : tie.Need-setup-from-requires
-setup-from-requires c κs = search needs
+setup-from-requires c κs = tt
 
 returns : tie.Need-returns
 unfolding turnSetupOf

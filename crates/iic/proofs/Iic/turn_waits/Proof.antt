@@ -1,22 +1,21 @@
 use Rattle.iic.specs.Calls.{turnWaitsOf}
-use borrow.Author.Needs.{needs}
 use Rattle.iic.proofs.Iic.turn_waits.Statement.{statement}
 use Rattle.iic.proofs.Iic.turn_waits.Tie as tie
 
 turn-clock-requires : tie.Need-turn-clock-requires
-turn-clock-requires c κs = search needs
+turn-clock-requires c κs = tt
 
 then-turn-monitor-requires : tie.Need-then-turn-monitor-requires
-then-turn-monitor-requires c κs = search needs
+then-turn-monitor-requires c κs = tt
 
 then-keep-stretched-requires : tie.Need-then-keep-stretched-requires
-then-keep-stretched-requires c κs = search needs
+then-keep-stretched-requires c κs = tt
 
 then-turn-filter-requires : tie.Need-then-turn-filter-requires
-then-turn-filter-requires c κs = search needs
+then-turn-filter-requires c κs = tt
 
 then-turn-setup-requires : tie.Need-then-turn-setup-requires
-then-turn-setup-requires c κs = search needs
+then-turn-setup-requires c κs = tt
 
 returns : tie.Need-returns
 unfolding turnWaitsOf

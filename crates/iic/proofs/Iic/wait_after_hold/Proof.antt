@@ -1,16 +1,15 @@
 use Rattle.iic.specs.Kick.{waitAfterHoldOf}
-use borrow.Author.Needs.{needs}
 use Rattle.iic.proofs.Iic.wait_after_hold.Statement.{statement}
 use Rattle.iic.proofs.Iic.wait_after_hold.Tie as tie
 
 master-requires : tie.Need-master-requires
-master-requires c κs = search needs
+master-requires c κs = tt
 
 start-clock-requires : tie.Need-start-clock-requires
-start-clock-requires c κs = search needs
+start-clock-requires c κs = tt
 
 start-setup-requires : tie.Need-start-setup-requires
-start-setup-requires c κs = search needs
+start-setup-requires c κs = tt
 
 returns : tie.Need-returns
 unfolding waitAfterHoldOf

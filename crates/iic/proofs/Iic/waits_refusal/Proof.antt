@@ -1,22 +1,21 @@
 use Rattle.iic.specs.Calls.{waitsRefusal}
-use borrow.Author.Needs.{needs}
 use Rattle.iic.proofs.Iic.waits_refusal.Statement.{statement}
 use Rattle.iic.proofs.Iic.waits_refusal.Tie as tie
 
 tap-refusal-requires : tie.Need-tap-refusal-requires
-tap-refusal-requires c κs = search needs
+tap-refusal-requires c κs = tt
 
 halves-refusal-requires : tie.Need-halves-refusal-requires
-halves-refusal-requires c κs = search needs
+halves-refusal-requires c κs = tt
 
 first-of-requires : tie.Need-first-of-requires
-first-of-requires c κs = search needs
+first-of-requires c κs = tt
 
 tap-refusal-requires-2 : tie.Need-tap-refusal-requires-2
-tap-refusal-requires-2 c κs = search needs
+tap-refusal-requires-2 c κs = tt
 
 first-of-requires-2 : tie.Need-first-of-requires-2
-first-of-requires-2 c κs = search needs
+first-of-requires-2 c κs = tt
 
 returns : tie.Need-returns
 unfolding waitsRefusal

@@ -1,18 +1,17 @@
-use borrow.Author.Needs.{needs}
 use Rattle.iic.proofs.Iic.wants_filter.Statement.{statement}
 use Rattle.iic.proofs.Iic.wants_filter.Tie as tie
 
 awake-requires : tie.Need-awake-requires
-awake-requires c κs = search needs
+awake-requires c κs = tt
 
 is-wait-requires : tie.Need-is-wait-requires
-is-wait-requires c κs = search needs
+is-wait-requires c κs = tt
 
 same-levels-requires : tie.Need-same-levels-requires
-same-levels-requires c κs = search needs
+same-levels-requires c κs = tt
 
 same-levels-requires-2 : tie.Need-same-levels-requires-2
-same-levels-requires-2 c κs = search needs
+same-levels-requires-2 c κs = tt
 
 returns : tie.Need-returns
 returns c = simp (c .same-levels2 .ensures, ← c .before .same-levels .ensures, ← c .before .before .is-wait .ensures, ← c .before .before .before .awake .ensures)

@@ -1,10 +1,9 @@
 use Rattle.iic.specs.Shift.{whenLostOf}
-use borrow.Author.Needs.{needs}
 use Rattle.iic.proofs.Iic.when_lost.Statement.{statement}
 use Rattle.iic.proofs.Iic.when_lost.Tie as tie
 
 arbitration-lost-requires : tie.Need-arbitration-lost-requires
-arbitration-lost-requires c κs = search needs
+arbitration-lost-requires c κs = tt
 
 returns : tie.Need-returns
 unfolding whenLostOf

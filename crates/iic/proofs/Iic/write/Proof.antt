@@ -1,19 +1,18 @@
 use Rattle.iic.specs.Calls.{writeOf}
-use borrow.Author.Needs.{needs}
 use Rattle.iic.proofs.Iic.write.Statement.{statement}
 use Rattle.iic.proofs.Iic.write.Tie as tie
 
 guard-requires : tie.Need-guard-requires
-guard-requires c κs = search needs
+guard-requires c κs = tt
 
 at-requires : tie.Need-at-requires
-at-requires c κs = search needs
+at-requires c κs = tt
 
 write-at-requires : tie.Need-write-at-requires
-write-at-requires c κs = search needs
+write-at-requires c κs = tt
 
 refused-requires : tie.Need-refused-requires
-refused-requires c κs = search needs
+refused-requires c κs = tt
 
 returns : tie.Need-returns
 unfolding writeOf

@@ -7,61 +7,61 @@ enum-told : tie.Need-enum-told
 enum-told c = search needs
 
 write-control-requires : tie.Need-write-control-requires
-write-control-requires c κs = search needs
+write-control-requires c κs = tt
 
 enum-told-2 : tie.Need-enum-told-2
 enum-told-2 c = search needs
 
 write-reset-requires : tie.Need-write-reset-requires
-write-reset-requires c κs = search needs
+write-reset-requires c κs = tt
 
 enum-told-3 : tie.Need-enum-told-3
 enum-told-3 c = search needs
 
 write-mode-requires : tie.Need-write-mode-requires
-write-mode-requires c κs = search needs
+write-mode-requires c κs = tt
 
 fine-requires : tie.Need-fine-requires
-fine-requires c κs = search needs
+fine-requires c κs = tt
 
 enum-told-4 : tie.Need-enum-told-4
 enum-told-4 c = search needs
 
 write-enable-requires : tie.Need-write-enable-requires
-write-enable-requires c κs = search needs
+write-enable-requires c κs = tt
 
 fine-requires-2 : tie.Need-fine-requires-2
-fine-requires-2 c κs = search needs
+fine-requires-2 c κs = tt
 
 enum-told-5 : tie.Need-enum-told-5
 enum-told-5 c = search needs
 
 write-status-requires : tie.Need-write-status-requires
-write-status-requires c κs = search needs
+write-status-requires c κs = tt
 
 kick-requires : tie.Need-kick-requires
-kick-requires c κs = search needs
+kick-requires c κs = tt
 
 enum-told-6 : tie.Need-enum-told-6
 enum-told-6 c = search needs
 
 write-address-requires : tie.Need-write-address-requires
-write-address-requires c κs = search needs
+write-address-requires c κs = tt
 
 kick-requires-2 : tie.Need-kick-requires-2
-kick-requires-2 c κs = search needs
+kick-requires-2 c κs = tt
 
 enum-told-7 : tie.Need-enum-told-7
 enum-told-7 c = search needs
 
 write-data-requires : tie.Need-write-data-requires
-write-data-requires c κs = search needs
+write-data-requires c κs = tt
 
 enum-told-8 : tie.Need-enum-told-8
 enum-told-8 c = search needs
 
 fine-requires-3 : tie.Need-fine-requires-3
-fine-requires-3 c κs = search needs
+fine-requires-3 c κs = tt
 
 returns : tie.Need-returns
 unfolding writeAt

@@ -1,35 +1,34 @@
 use Rattle.iic.specs.Access.{writeControlOf}
-use borrow.Author.Needs.{needs}
 use Rattle.iic.proofs.Iic.write_control.Statement.{statement}
 use Rattle.iic.proofs.Iic.write_control.Tie as tie
 
 take-control-requires : tie.Need-take-control-requires
-take-control-requires c κs = search needs
+take-control-requires c κs = tt
 
 enabled-requires : tie.Need-enabled-requires
-enabled-requires c κs = search needs
+enabled-requires c κs = tt
 
 schedule-filter-requires : tie.Need-schedule-filter-requires
-schedule-filter-requires c κs = search needs
+schedule-filter-requires c κs = tt
 
 then-stop-receive-requires : tie.Need-then-stop-receive-requires
-then-stop-receive-requires c κs = search needs
+then-stop-receive-requires c κs = tt
 
 then-kick-requires : tie.Need-then-kick-requires
-then-kick-requires c κs = search needs
+then-kick-requires c κs = tt
 
 returns : tie.Need-returns
 unfolding writeControlOf
 returns c = simp (c .then-kick .ensures, c .before .then-stop-receive .ensures, ← c .before .before .schedule-filter .ensures, c .before .before .before .if1 .taken, ← c .before .before .before .before .enabled .ensures, ← c .before .before .before .before .before .take-control .ensures)
 
 stop-shifter-requires : tie.Need-stop-shifter-requires
-stop-shifter-requires c κs = search needs
+stop-shifter-requires c κs = tt
 
 with-filter-wait-requires : tie.Need-with-filter-wait-requires
-with-filter-wait-requires c κs = search needs
+with-filter-wait-requires c κs = tt
 
 fine-requires : tie.Need-fine-requires
-fine-requires c κs = search needs
+fine-requires c κs = tt
 
 returns-2 : tie.Need-returns-2
 unfolding writeControlOf

@@ -1,16 +1,15 @@
 use Rattle.iic.specs.Access.{writeDataOf}
-use borrow.Author.Needs.{needs}
 use Rattle.iic.proofs.Iic.write_data.Statement.{statement}
 use Rattle.iic.proofs.Iic.write_data.Tie as tie
 
 give-data-requires : tie.Need-give-data-requires
-give-data-requires c κs = search needs
+give-data-requires c κs = tt
 
 send-on-requires : tie.Need-send-on-requires
-send-on-requires c κs = search needs
+send-on-requires c κs = tt
 
 then-kick-requires : tie.Need-then-kick-requires
-then-kick-requires c κs = search needs
+then-kick-requires c κs = tt
 
 returns : tie.Need-returns
 unfolding writeDataOf

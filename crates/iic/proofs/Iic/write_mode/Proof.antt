@@ -1,5 +1,4 @@
 use Rattle.iic.specs.Access.{writeModeOf}
-use borrow.Author.Needs.{needs}
 use Rattle.iic.proofs.Iic.write_mode.Statement.{statement}
 use Rattle.iic.proofs.Iic.write_mode.Tie as tie
 
@@ -8,10 +7,10 @@ unfolding writeModeOf
 returns c = simp (c .if1 .taken)
 
 recounted-in-requires : tie.Need-recounted-in-requires
-recounted-in-requires c κs = search needs
+recounted-in-requires c κs = tt
 
 with-frame-requires : tie.Need-with-frame-requires
-with-frame-requires c κs = search needs
+with-frame-requires c κs = tt
 
 returns-2 : tie.Need-returns-2
 unfolding writeModeOf

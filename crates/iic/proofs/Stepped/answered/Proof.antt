@@ -1,12 +1,9 @@
-use borrow.Author.Needs.{needs}
 use Rattle.iic.proofs.Stepped.answered.Statement.{statement}
 use Rattle.iic.proofs.Stepped.answered.Tie as tie
-use Rattle.iic.proofs.Stepped.answered.Reads as reads
-use Rattle.iic.proofs.Stepped.answered.Lts as lts
 use Rattle.iic.proofs.Ended.byte.Reads as byte-reads
 
 byte-requires : tie.Need-byte-requires
-byte-requires c κs = search needs
+byte-requires c κs = tt
 
 returns : tie.Need-returns
 returns c = simp (c .byte .ensures)

@@ -1,12 +1,9 @@
-use borrow.Author.Needs.{needs}
 use Rattle.iic.proofs.Stepped.noticed.Statement.{statement}
 use Rattle.iic.proofs.Stepped.noticed.Tie as tie
-use Rattle.iic.proofs.Stepped.noticed.Reads as reads
-use Rattle.iic.proofs.Stepped.noticed.Lts as lts
 use Rattle.iic.proofs.Ended.truth.Reads as truth-reads
 
 truth-requires : tie.Need-truth-requires
-truth-requires c κs = search needs
+truth-requires c κs = tt
 
 returns : tie.Need-returns
 returns c = simp (c .truth .ensures)

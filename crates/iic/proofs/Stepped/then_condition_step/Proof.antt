@@ -6,7 +6,7 @@ enum-told : tie.Need-enum-told
 enum-told c = search needs
 
 condition-step-requires : tie.Need-condition-step-requires
-condition-step-requires c κs = search needs
+condition-step-requires c κs = tt
 
 enum-told-2 : tie.Need-enum-told-2
 enum-told-2 c = search needs

@@ -6,7 +6,7 @@ enum-told : tie.Need-enum-told
 enum-told c = search needs
 
 fire-clock-requires : tie.Need-fire-clock-requires
-fire-clock-requires c κs = search needs
+fire-clock-requires c κs = tt
 
 enum-told-2 : tie.Need-enum-told-2
 enum-told-2 c = search needs

@@ -6,7 +6,7 @@ enum-told : tie.Need-enum-told
 enum-told c = search needs
 
 fire-monitor-requires : tie.Need-fire-monitor-requires
-fire-monitor-requires c κs = search needs
+fire-monitor-requires c κs = tt
 
 enum-told-2 : tie.Need-enum-told-2
 enum-told-2 c = search needs

@@ -6,7 +6,7 @@ enum-told : tie.Need-enum-told
 enum-told c = search needs
 
 keep-stretched-requires : tie.Need-keep-stretched-requires
-keep-stretched-requires c κs = search needs
+keep-stretched-requires c κs = tt
 
 enum-told-2 : tie.Need-enum-told-2
 enum-told-2 c = search needs

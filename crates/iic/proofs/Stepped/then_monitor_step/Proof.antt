@@ -6,7 +6,7 @@ enum-told : tie.Need-enum-told
 enum-told c = search needs
 
 monitor-step-requires : tie.Need-monitor-step-requires
-monitor-step-requires c κs = search needs
+monitor-step-requires c κs = tt
 
 enum-told-2 : tie.Need-enum-told-2
 enum-told-2 c = search needs

@@ -6,7 +6,7 @@ enum-told : tie.Need-enum-told
 enum-told c = search needs
 
 schedule-filter-requires : tie.Need-schedule-filter-requires
-schedule-filter-requires c κs = search needs
+schedule-filter-requires c κs = tt
 
 enum-told-2 : tie.Need-enum-told-2
 enum-told-2 c = search needs

@@ -6,7 +6,7 @@ enum-told : tie.Need-enum-told
 enum-told c = search needs
 
 scl-edge-requires : tie.Need-scl-edge-requires
-scl-edge-requires c κs = search needs
+scl-edge-requires c κs = tt
 
 enum-told-2 : tie.Need-enum-told-2
 enum-told-2 c = search needs

@@ -6,7 +6,7 @@ enum-told : tie.Need-enum-told
 enum-told c = search needs
 
 turn-monitor-requires : tie.Need-turn-monitor-requires
-turn-monitor-requires c κs = search needs
+turn-monitor-requires c κs = tt
 
 enum-told-2 : tie.Need-enum-told-2
 enum-told-2 c = search needs

@@ -6,7 +6,7 @@ enum-told : tie.Need-enum-told
 enum-told c = search needs
 
 turn-setup-requires : tie.Need-turn-setup-requires
-turn-setup-requires c κs = search needs
+turn-setup-requires c κs = tt
 
 enum-told-2 : tie.Need-enum-told-2
 enum-told-2 c = search needs

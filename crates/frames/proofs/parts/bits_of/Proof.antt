@@ -1,0 +1,11 @@
+use Rattle.frames.proofs.parts.bits_of.Statement.{statement}
+use Rattle.frames.proofs.parts.bits_of.Tie as tie
+
+returns : tie.Need-returns
+returns c = simp (c .if1 .taken)
+
+returns-2 : tie.Need-returns-2
+returns-2 c = simp (c .if1 .left)
+
+pub bits-of-spec : {M : Type 1} → statement M
+bits-of-spec = tie.close (tie.spec returns returns-2)

@@ -1,0 +1,84 @@
+-- Definitions: how waits pause, resume and end.
+use Prim.Native.Nat.{ℕ, _-_, _^_}
+use mathlib.Core.Bool.{Bool, true, false, cond}
+use lib.Dec.{eqb, ltb}
+use Rattle.time.specs.declared.Time.{Time}
+use Rattle.time.specs.Time.{earlier, sameTime}
+use Rattle.clocks.specs.declared.Clocks.{Clocks}
+use Rattle.clocks.specs.declared.wait.ClockWait.{ClockWait}
+use Rattle.clocks.specs.declared.wait.Waited.{Waited}
+use Rattle.clocks.specs.declared.wait.NewWait.{NewWait}
+use Rattle.clocks.specs.declared.wait.NewWait.the-variants as wait
+use Rattle.clocks.specs.declared.wait.Deadline.{Deadline}
+use Rattle.clocks.specs.declared.wait.Deadline.the-variants as deadline
+use Rattle.clocks.specs.Wait.{waitDeadline, waitPause, waitResume, waitValidate}
+use Rattle.waits.specs.declared.HalfWait.{HalfWait}
+use Rattle.waits.specs.declared.NewHalf.{NewHalf}
+use Rattle.waits.specs.declared.MaybeWait.{MaybeWait}
+use Rattle.waits.specs.declared.MaybeWait.the-variants.{NoWait, Waiting}
+use Rattle.waits.specs.declared.MaybeHalf.{MaybeHalf}
+use Rattle.waits.specs.declared.MaybeHalf.the-variants.{NoHalf, Half}
+use Rattle.waits.specs.declared.Due.{Due}
+use Rattle.waits.specs.declared.Due.the-variants as due
+use Rattle.waits.specs.Half.{halfDeadline, halfPause, halfResume}
+
+-- ## Absent or present
+
+abbrev pub isWait : MaybeWait → Bool
+isWait NoWait = false
+isWait (Waiting w) = true
+
+abbrev pub isHalf : MaybeHalf → Bool
+isHalf NoHalf = false
+isHalf (Half w) = true
+
+-- ## Pausing (false) and resuming (true)
+
+abbrev pub turnHalf : Bool → Time → Clocks → HalfWait → NewHalf
+turnHalf gate now k w = cond gate (halfResume w now k) (halfPause w now k)
+
+abbrev pub newWait : Waited → NewWait
+newWait w = cond (eqb (w .refusal) 0) (wait.Made (w .wait)) (wait.Refused (w .refusal))
+
+abbrev pub turnWait : Bool → Time → Clocks → ClockWait → NewWait
+turnWait gate now k w = newWait (cond gate (waitResume w now k) (waitPause w now k))
+
+-- ## Ending
+
+-- the time at which a wait ends, none for an absent one
+unfoldable pub waitEnd : MaybeWait → Clocks → Deadline
+waitEnd NoWait k = deadline.Never
+waitEnd (Waiting w) k = waitDeadline w k
+
+unfoldable pub halfEnd : MaybeHalf → Clocks → Deadline
+halfEnd NoHalf k = deadline.Never
+halfEnd (Half w) k = halfDeadline w k
+
+-- a wait fires only if its time equals now; a refused time is refused
+unfoldable pub dueOf : Deadline → Time → Due
+dueOf deadline.Never now = due.NotNow
+dueOf (deadline.At t) now = cond (sameTime t now) due.Now due.NotNow
+dueOf (deadline.Refused n) now = due.Refused n
+
+abbrev pub soonerThan : Time → Deadline → Deadline
+soonerThan t deadline.Never = deadline.At t
+soonerThan t (deadline.At u) = cond (earlier u t) (deadline.At u) (deadline.At t)
+soonerThan t (deadline.Refused n) = deadline.Refused n
+
+-- the earlier of two times, refused at the first that is refused
+unfoldable pub sooner : Deadline → Deadline → Deadline
+sooner deadline.Never d = d
+sooner (deadline.At t) d = soonerThan t d
+sooner (deadline.Refused n) d = deadline.Refused n
+
+-- ## For `validate`
+
+-- document 01, 11: a wait's tap
+abbrev pub tapOf : MaybeWait → ℕ
+tapOf NoWait = 0
+tapOf (Waiting w) = waitValidate w
+
+-- document 01, 12: a half count within 1023 of the top
+abbrev pub shortHalf : MaybeHalf → Bool
+shortHalf NoHalf = true
+shortHalf (Half w) = ltb (w .count) (2 ^ 64 - 1024)

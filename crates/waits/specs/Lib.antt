@@ -1,0 +1,3 @@
+pub mod Half
+pub mod Rates
+pub mod Ends
