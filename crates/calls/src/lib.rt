@@ -2,6 +2,7 @@
 // numbers, `compare/words/src/layout.rs` says where what lies. An answer starts with the number of its refusal, 0 for none.
 ghost use Prim.Native.Nat.{_≤_};
 
+pub mod clock_waits;
 pub mod domains;
 pub mod instants;
 pub mod peripheral;
@@ -9,7 +10,6 @@ pub mod prescalers;
 pub mod sets;
 pub mod states;
 pub mod taps;
-pub mod waits;
 
 use clocks::Truth;
 use clocks::tap::Source;
@@ -41,7 +41,7 @@ pub fn call(number: u64, set: &[u64; 69], args: &[u64; 24], out: &mut [u64; 70])
         sets::call(number, set, args, out);
         return;
     }
-    waits::call(number, set, args, out);
+    clock_waits::call(number, set, args, out);
 }
 
 fn time_at(args: &[u64; 24], at: usize) -> Time

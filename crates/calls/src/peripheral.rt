@@ -1,4 +1,5 @@
 // The peripheral's calls, with its state as words.
+use super::clock_waits::put_deadline;
 use super::put_refusal;
 use super::put_truth;
 use super::put_word;
@@ -7,7 +8,6 @@ use super::states::byte_of;
 use super::states::iic_of;
 use super::states::put_iic;
 use super::time_at;
-use super::waits::put_deadline;
 use iic::Byte;
 use iic::Ended;
 use iic::Iic;

@@ -1,27 +1,27 @@
 // The peripheral's state of words, and back. `compare/words/src/iic.rs` says where what lies.
 ghost use Prim.Native.Nat.{_≤_};
+use super::clock_waits::state_of;
 use super::number_of;
 use super::tap_of;
-use super::waits::state_of;
 use bus::Levels;
 use clocks::tap::Tap;
 use clocks::wait::ClockWait;
 use clocks::wait::WaitState;
+use frames::Frame;
+use frames::Framing;
+use frames::Phase;
 use iic::Command;
 use iic::Condition;
 use iic::EighthFall;
 use iic::Flags;
-use iic::Frame;
-use iic::Framing;
-use iic::HalfWait;
 use iic::Hold;
 use iic::Iic;
 use iic::Lines;
-use iic::MaybeHalf;
-use iic::MaybeWait;
-use iic::Phase;
 use iic::Registers;
 use time::Time;
+use waits::HalfWait;
+use waits::MaybeHalf;
+use waits::MaybeWait;
 
 pub(crate) fn byte_of(n: u64) -> u8 {
     (n % 256) as u8
