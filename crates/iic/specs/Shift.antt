@@ -21,8 +21,6 @@ use Rattle.iic.specs.State.{levels, master, transmits, synchronous, rais
 use Rattle.frames.specs.Mirror.{ordered}
 use Rattle.frames.specs.Parts.{bitsOf, phased, filled, sampled, starved, yieldIn}
 
--- ## A frame with some parts set anew
-
 -- ## `load_transmit`: ICDRT goes into a frame that waits for it, and TDRE is raised
 
 abbrev pub canLoad : Iic → Frame → Bool

@@ -1,4 +1,4 @@
--- Definitions: the lengths of the waits, and how the four waits of a state start, pause, resume and end.
+-- Definitions: how the four waits of a state start, pause and resume.
 use mathlib.Core.Bool.{Bool, not, _&&_, _||_, cond}
 use Rattle.bus.specs.Bus.{sameLevels}
 use Rattle.time.specs.declared.Time.{Time}
@@ -21,8 +21,6 @@ use Rattle.iic.specs.State.{awake}
 use Rattle.waits.specs.Ends.{isWait, turnHalf, turnWait}
 use Rattle.waits.specs.Half.{halfAfter}
 use Rattle.waits.specs.Rates.{periodOf, monitorHalves, setupCycles}
-
--- ## Lengths, by ICCR1 (document 01, Registers and steps; the manual's table of transfer rates)
 
 -- ## Starting
 
@@ -90,5 +88,3 @@ turnSetupIn gate now k (Waiting w) s = setupFrom (turnWait gate now k w) s
 
 unfoldable pub turnSetupOf : Bool → Time → Clocks → Iic → Stepped
 turnSetupOf gate now k s = turnSetupIn gate now k (s .«setup_wait») s
-
--- ## Ending

@@ -1,4 +1,4 @@
-// The lengths of the waits, and how the four waits of a state start, pause, resume and end.
+// How the four waits of a state start, pause and resume.
 ghost use mathlib.Core.Path.{_≡_};
 ghost use Rattle.iic.specs.Answers.{andThen};
 ghost use Rattle.iic.specs.Waiting.{clockFrom, monitorFrom, filterFrom, setupFrom, startClockOf, startMonitorOf, startSetupOf, wantsFilter, scheduleFilterOf, turnClockOf, turnMonitorOf, turnFilterOf, turnSetupOf};
