@@ -1,0 +1,38 @@
+//! Plays traces, as document 01 has them ("The trace player"), over the peripheral of docs/src.
+mod line;
+mod player;
+pub use player::Player;
+
+/// After so many lines no more is read.
+pub const MOST_LINES: usize = 1_000_000;
+/// With fewer free bytes than this no line is played.
+pub const ROOM: usize = 80;
+
+/// What became of a whole trace.
+#[derive(Clone, PartialEq, Eq, Debug)]
+pub struct Played {
+    /// The answer lines.
+    pub bytes: Vec<u8>,
+    /// How many there are.
+    pub lines: usize,
+    /// 6 where the room ended before the trace, else 0.
+    pub refusal: u8,
+}
+
+/// Plays a trace into at most so many bytes.
+pub fn play(trace: &[u8], capacity: usize) -> Played {
+    let mut player = Player::default();
+    let mut played = Played { bytes: Vec::new(), lines: 0, refusal: 0 };
+    for line in trace.split_inclusive(|byte| *byte == b'\n').take(MOST_LINES) {
+        if capacity - played.bytes.len() < ROOM {
+            played.refusal = 6;
+            break;
+        }
+        player.play(line, &mut played.bytes);
+        played.lines += 1;
+    }
+    played
+}
+
+#[cfg(test)]
+mod tests;

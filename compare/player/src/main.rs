@@ -1,0 +1,31 @@
+//! Plays the trace of standard input and prints its answer lines.
+use plain_player::{Player, MOST_LINES};
+use std::io::{self, BufRead, Write};
+use std::process::ExitCode;
+
+fn main() -> ExitCode {
+    match play() {
+        Ok(()) => ExitCode::SUCCESS,
+        Err(reason) => {
+            eprintln!("plain-player: {reason}");
+            ExitCode::FAILURE
+        }
+    }
+}
+
+fn play() -> io::Result<()> {
+    let mut input = io::stdin().lock();
+    let mut output = io::BufWriter::new(io::stdout().lock());
+    let mut player = Player::default();
+    let (mut line, mut answer) = (Vec::new(), Vec::new());
+    for _ in 0..MOST_LINES {
+        line.clear();
+        if input.read_until(b'\n', &mut line)? == 0 {
+            break;
+        }
+        answer.clear();
+        player.play(&line, &mut answer);
+        output.write_all(&answer)?;
+    }
+    output.flush()
+}

@@ -1,0 +1,98 @@
+//! One peripheral and its clocks, played line by line.
+use crate::line::{self, Call};
+use reference::mcu::clocks::{Clocks, Frequencies};
+use reference::mcu::iic::Iic;
+use reference::{Error, Time};
+use std::fmt;
+
+/// Refusal 4.
+const MALFORMED: u8 = 4;
+/// Refusal 5.
+const NOT_LATER: u8 = 5;
+/// The address of ICSR.
+const STATUS: u16 = 4;
+
+pub struct Player {
+    iic: Iic,
+    clocks: Clocks,
+    /// The time of the last line that wasn't refused 4 or 5.
+    last: Option<Time>,
+    lines: usize,
+}
+
+/// The third field of an answer line.
+enum Value {
+    None,
+    Byte(u8),
+    Bit(bool),
+    Time(Time),
+}
+
+impl Default for Player {
+    fn default() -> Self {
+        let clocks = Clocks::new(Time::ZERO, Frequencies::default()).expect("default frequencies are no zeros");
+        Self { iic: Iic::default(), clocks, last: None, lines: 0 }
+    }
+}
+
+impl Player {
+    /// The state after the lines played.
+    pub fn iic(&self) -> &Iic {
+        &self.iic
+    }
+
+    /// When the peripheral wants to be visited, where it can tell.
+    pub fn deadline(&self) -> Option<Time> {
+        self.iic.deadline(&self.clocks).ok().flatten()
+    }
+
+    /// Plays one line, with or without its newline, puts its answer line behind what is there, and says how it was refused,
+    /// or 0. The refusals 1, 9 and 10 can't come: the clocks hold no zero, and no call leads to a state of those kinds.
+    pub fn play(&mut self, line: &[u8], out: &mut Vec<u8>) -> u8 {
+        self.lines += 1;
+        let (refusal, value) = match self.answer(line.strip_suffix(b"\n").unwrap_or(line)) {
+            Ok(value) => (0, value),
+            Err(number) => (number, Value::None),
+        };
+        out.extend_from_slice(format!("{}\t{refusal}\t{value}\t", self.lines).as_bytes());
+        match self.iic.pins() {
+            Some(levels) => out.extend(levels.map(|level| b'0' + u8::from(level))),
+            None => out.push(b'-'),
+        }
+        out.extend_from_slice(format!("\t{:02x}\n", self.iic.peek(STATUS)).as_bytes());
+        refusal
+    }
+
+    fn answer(&mut self, line: &[u8]) -> Result<Value, u8> {
+        let (now, call) = line::parse(line).ok_or(MALFORMED)?;
+        if self.last.is_some_and(|last| now <= last) {
+            return Err(NOT_LATER);
+        }
+        self.last = Some(now);
+        self.call(now, call).map_err(|error| error.number())
+    }
+
+    fn call(&mut self, now: Time, call: Call) -> Result<Value, Error> {
+        let (iic, clocks) = (&mut self.iic, &self.clocks);
+        match call {
+            Call::Read(address) => return iic.read(address, now, clocks).map(Value::Byte),
+            Call::Pins(scl, sda) => return iic.input_pins(scl, sda, now, clocks).map(Value::Bit),
+            Call::Deadline => return Ok(iic.deadline(clocks)?.map_or(Value::None, Value::Time)),
+            Call::Write(address, byte) => iic.write(address, byte, now, clocks)?,
+            Call::Gate(gate) => iic.set_gate(gate, now, clocks)?,
+            Call::Visit => iic.advance(now, clocks)?,
+        }
+        Ok(Value::None)
+    }
+}
+
+impl fmt::Display for Value {
+    fn fmt(&self, f: &mut fmt::Formatter<'_>) -> fmt::Result {
+        match self {
+            Value::None => write!(f, "-"),
+            Value::Byte(byte) => write!(f, "{byte:02x}"),
+            Value::Bit(bit) => write!(f, "{}", u8::from(*bit)),
+            Value::Time(time) => write!(f, "{}:{:016x}", time.raw() >> 64, time.raw() as u64),
+        }
+    }
+}

@@ -1,0 +1,103 @@
+use crate::{play, Played};
+
+/// A trace or answer lines with spaces for tabs.
+fn tabs(text: &str) -> Vec<u8> {
+    text.replace(' ', "\t").into_bytes()
+}
+
+fn answers(trace: &str) -> String {
+    String::from_utf8(play(&tabs(trace), usize::MAX).bytes).unwrap().replace('\t', " ")
+}
+
+const EXAMPLE: &str = "0 0000000000000001 g 1\n0 0000000000000002 w 0 b0\n0 0000000000000003 r 4\n\
+    0 0000000000000004 w 1 90\n0 0000000000000005 r 1\n";
+const ANSWERS: &str = "1 0 - - 00\n2 0 - 11 80\n3 0 80 11 80\n4 0 - 01 80\n5 0 75 01 80\n";
+
+#[test]
+fn the_example_of_document_01() {
+    assert_eq!(answers(EXAMPLE), ANSWERS);
+    assert_eq!(play(&tabs(EXAMPLE), 1000), Played { bytes: tabs(ANSWERS), lines: 5, refusal: 0 });
+}
+
+#[test]
+fn the_last_newline_may_be_missing() {
+    assert_eq!(answers(EXAMPLE.trim_end()), ANSWERS);
+    assert_eq!(answers(""), "");
+    assert_eq!(answers("\n"), "1 4 - - 00\n");
+}
+
+#[test]
+fn levels_and_deadlines() {
+    let trace = "0 0000000000000000 g 1\n0 0000000000000001 w 0 80\n0 0000000000000002 d\n0 0000000000000003 p 1 0\n\
+        0 0000000000000004 d\n0 0000000000000005 p 1 0\n0 0000048d159e26af v\n";
+    let said =
+        "1 0 - - 00\n2 0 - 11 00\n3 0 - 11 00\n4 0 1 11 00\n5 0 0:0000048d159e26af 11 00\n6 0 0 11 00\n7 0 - 11 00\n";
+    assert_eq!(answers(trace), said);
+    assert_eq!(answers("0 0000000000000000 p 1 0\n"), "1 0 0 - 00\n");
+}
+
+#[test]
+fn malformed_lines() {
+    let lines = [
+        "00 0000000000000001 v",
+        " 0000000000000001 v",
+        "+1 0000000000000001 v",
+        "18446744073709551616 0000000000000001 v",
+        "0 000000000000001 v",
+        "0 00000000000000001 v",
+        "0 000000000000000A v",
+        "0 0000000000000001",
+        "0 0000000000000001 ",
+        "0 0000000000000001 x",
+        "0 0000000000000001 v ",
+        "0 0000000000000001 v 0",
+        "0 0000000000000001 v\r",
+        "0 0000000000000001 r",
+        "0 0000000000000001 r 8",
+        "0 0000000000000001 r 00",
+        "0 0000000000000001 w 0",
+        "0 0000000000000001 w 0 f",
+        "0 0000000000000001 w 0 F0",
+        "0 0000000000000001 p 1",
+        "0 0000000000000001 p 11",
+        "0 0000000000000001 p 1 2",
+        "0 0000000000000001 g 2",
+        "0 0000000000000001 d 1",
+        "0 0000000000000001 v 00000000000000000000000000000000000000000000000",
+    ];
+    for line in lines {
+        assert_eq!(answers(line), "1 4 - - 00\n", "{line}");
+    }
+    assert_eq!(answers("18446744073709551615 ffffffffffffffff v"), "1 0 - - 00\n");
+}
+
+#[test]
+fn each_time_is_later() {
+    let trace = "5 0000000000000000 v\n5 0000000000000000 v\n4 ffffffffffffffff v\n6 0000000000000000 x\n5 0000000000000001 v\n";
+    assert_eq!(answers(trace), "1 0 - - 00\n2 5 - - 00\n3 5 - - 00\n4 4 - - 00\n5 0 - - 00\n");
+    // A line refused 7 counts.
+    let late = "0 0000000000000000 g 1\n18446744073709551615 0000000000000000 w 0 a0\n\
+        18446744073709551615 0000000000000001 w 1 90\n18446744073709551615 0000000000000001 v\n";
+    assert_eq!(answers(late), "1 0 - - 00\n2 0 - 11 00\n3 7 - 01 00\n4 5 - 01 00\n");
+}
+
+#[test]
+fn room_of_80_bytes_before_each_line() {
+    let first = ANSWERS.find('\n').unwrap() + 1;
+    for (capacity, lines) in [(0, 0), (79, 0), (80, 1), (79 + first, 1), (80 + first, 2)] {
+        let bytes: Vec<u8> = tabs(ANSWERS).split_inclusive(|b| *b == b'\n').take(lines).flatten().copied().collect();
+        assert_eq!(play(&tabs(EXAMPLE), capacity), Played { bytes, lines, refusal: 6 }, "{capacity}");
+    }
+    assert_eq!(play(b"", 0).refusal, 0);
+}
+
+#[test]
+fn a_million_lines_and_no_more() {
+    let played = play(&b"\n".repeat(1_000_001), usize::MAX);
+    assert_eq!((played.lines, played.refusal), (1_000_000, 0));
+    assert!(played.bytes.ends_with(b"\n1000000\t4\t-\t-\t00\n"));
+    // The room is asked for before a line that is played, not behind the last.
+    let exact = played.bytes.len() + 80 - b"1000000\t4\t-\t-\t00\n".len();
+    assert_eq!(play(&b"\n".repeat(1_000_001), exact).refusal, 0);
+    assert_eq!(play(&b"\n".repeat(1_000_001), exact - 1).lines, 999_999);
+}
