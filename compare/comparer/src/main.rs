@@ -4,7 +4,6 @@ mod judge;
 mod options;
 mod part;
 mod peripheral;
-mod random;
 mod report;
 mod shrink;
 use std::process::ExitCode;

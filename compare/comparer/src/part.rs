@@ -2,10 +2,10 @@
 use crate::inputs::{self, grid};
 use crate::judge::{self, Judge, Sets};
 use crate::options::Options;
-use crate::random::Random;
 use crate::report::{self, Tally};
 use crate::shrink;
 use std::time::Instant;
+use traffic::random::Random;
 use words::calls::Function;
 use words::layout::{self, Args, Set};
 

@@ -15,7 +15,6 @@ const STATUS: u16 = 4;
 pub struct Player {
     iic: Iic,
     clocks: Clocks,
-    /// The time of the last line that wasn't refused 4 or 5.
     last: Option<Time>,
     lines: usize,
 }
@@ -39,6 +38,11 @@ impl Player {
     /// The state after the lines played.
     pub fn iic(&self) -> &Iic {
         &self.iic
+    }
+
+    /// The time of the last line that wasn't refused 4 or 5.
+    pub fn last(&self) -> Option<Time> {
+        self.last
     }
 
     /// When the peripheral wants to be visited, where it can tell.

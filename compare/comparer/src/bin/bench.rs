@@ -4,11 +4,7 @@
 use reference::time::{Clock, Time};
 use std::hint::black_box;
 use std::time::Instant;
-
-#[path = "../random.rs"]
-#[allow(dead_code)]
-mod random;
-use random::Random;
+use traffic::random::Random;
 
 /// Inputs, those of a slice, and passes over them all. In a pass the port and the Rust take turns slice by slice, and the
 /// best time of each slice counts: what else the machine does only adds to one.

@@ -3,7 +3,7 @@
 use super::exact;
 use super::focus::Focus;
 use super::numbers::{self, DENOMINATORS, DIVIDERS, FREQUENCIES, STAGES, WORDS};
-use crate::random::Random;
+use traffic::random::Random;
 use words::calls::{Function, Kind};
 use words::layout::{self, Args, Set};
 

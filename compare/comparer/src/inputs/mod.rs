@@ -4,11 +4,11 @@ mod focus;
 pub mod grid;
 mod numbers;
 mod objects;
-use crate::random::Random;
 use focus::Focus;
 pub use grid::plain_set;
 pub use numbers::{divider, start, word};
 pub use objects::set;
+use traffic::random::Random;
 use words::calls::{Function, Kind};
 use words::layout::{self, Args, Set};
 

@@ -1,7 +1,7 @@
 //! Words, counts and times: the boundaries, and random ones that lie near them more often than not.
 use super::exact;
 use super::focus::Focus;
-use crate::random::Random;
+use traffic::random::Random;
 use words::layout;
 
 const TOP: u64 = u64::MAX;

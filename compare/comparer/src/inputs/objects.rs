@@ -1,7 +1,7 @@
 //! Clocks, domains, prescalers, taps, waits and whole sets, sound ones and damaged ones.
 use super::focus::Focus;
 use super::numbers;
-use crate::random::Random;
+use traffic::random::Random;
 use words::layout::{self, Set};
 
 pub fn clock(random: &mut Random, damaged: bool) -> [u64; layout::CLOCK] {

@@ -1,16 +1,14 @@
 //! The peripheral: runs of calls from the default, and a few calls from states made at random.
-mod host;
 mod machine;
 mod runs;
-mod script;
 mod states;
 use crate::inputs::{self, exact};
 use crate::options::Options;
-use crate::random::Random;
-use host::Host;
 use machine::{Machine, Sets};
 use runs::Run;
 use std::time::Instant;
+use traffic::host::Host;
+use traffic::random::Random;
 use words::calls::End;
 use words::layout::{self, Set};
 

@@ -1,7 +1,7 @@
 //! States made at random: sound ones, and ones that no call leads to. Waits end at, just before or just after a time.
 use crate::inputs::exact;
 use crate::inputs::{divider, word};
-use crate::random::Random;
+use traffic::random::Random;
 use words::iic::{self, State};
 use words::layout::{self, Set};
 

@@ -42,6 +42,8 @@ pub struct Host {
     repeats: bool,
     back: bool,
     late: bool,
+    /// Whether each time is later than the one before.
+    later: bool,
     /// How many of a hundred calls are hostile, and of the others how many are visits and how many are made by the others
     /// on the bus.
     hostile: u64,
@@ -77,6 +79,7 @@ impl Host {
             repeats: !random.once_in(3),
             back: random.once_in(4),
             late: random.once_in(4),
+            later: false,
             hostile: random.pick(&[0, 0, 0, 1, 5, 30]),
             visits: random.pick(&[50, 75, 88]),
             others_act: random.pick(&[4, 8, 20]),
@@ -121,7 +124,26 @@ impl Host {
         host
     }
 
-    /// Asks for the first deadline.
+    /// A host that takes over a peripheral in any state, and whose times are each later than the one before.
+    pub fn taking_over(random: &mut Random, now: u128, period: u128) -> Self {
+        let mut host = Self::over_state(random, now, period);
+        host.repeats = false;
+        host.back = false;
+        host.later = true;
+        host.restart(random);
+        host
+    }
+
+    pub fn now(&self) -> u128 {
+        self.now
+    }
+
+    /// It is at least that late now.
+    pub fn reach(&mut self, now: u128) {
+        self.now = self.now.max(now);
+    }
+
+    /// Asks for the deadline.
     pub fn look(&mut self) -> (Call, Args) {
         self.call(Call::Deadline, self.now, [0, 0])
     }
@@ -205,9 +227,9 @@ impl Host {
     }
 
     fn call(&mut self, call: Call, now: u128, operands: [u64; 2]) -> (Call, Args) {
-        self.now = now;
+        self.now = if self.later { now.max(self.now.saturating_add(1)) } else { now };
         let mut args = [0; layout::ARGS];
-        args[..2].copy_from_slice(&layout::halves(now));
+        args[..2].copy_from_slice(&layout::halves(self.now));
         args[2..4].copy_from_slice(&operands);
         (call, args)
     }

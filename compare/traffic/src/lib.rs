@@ -1,0 +1,6 @@
+//! Hosts that use the peripheral on a bus with others, and traces of what they do.
+pub mod host;
+pub mod random;
+mod script;
+mod spoil;
+pub mod trace;

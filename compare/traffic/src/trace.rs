@@ -1,0 +1,99 @@
+//! Traces: a peripheral is played by one host after the other, with bad lines and questions thrown in.
+use crate::host::Host;
+use crate::random::Random;
+use crate::spoil;
+use plain_player::Player;
+use reference::Bridge;
+use words::iic::{Call, Peripheral, State, STATE};
+use words::layout::{self, Args};
+
+/// The system clock's frequency and its period.
+const HZ: u128 = 3_686_400;
+const PERIOD: u128 = (1 << 64) / HZ;
+
+struct Generator {
+    random: Random,
+    player: Player,
+    host: Host,
+    /// Lines until another host takes over.
+    left: u64,
+    state: State,
+    words: Vec<u64>,
+    answers: Vec<u8>,
+}
+
+/// So many lines, the last with or without its newline. About nine in ten are answered 0.
+pub fn trace(seed: u64, lines: usize) -> Vec<u8> {
+    let mut generator = Generator::new(Random::new(seed));
+    let late = if generator.random.once_in(4) { lines - lines / 25 } else { lines };
+    let mut out = Vec::with_capacity(lines * 28);
+    for line in 0..lines {
+        if line == late {
+            generator.jump();
+        }
+        generator.line(&mut out);
+    }
+    if generator.random.once_in(4) {
+        out.pop();
+    }
+    out
+}
+
+impl Generator {
+    fn new(mut random: Random) -> Self {
+        let begin = match random.below(3) {
+            0 => 0,
+            1 => u128::from(random.any_length()),
+            _ => layout::joined(random.below(1 << 40), random.word()),
+        };
+        let host = Host::taking_over(&mut random, begin, PERIOD);
+        let player = Player::default();
+        let state = [0; STATE];
+        Self { random, player, host, left: 0, state, words: Vec::new(), answers: Vec::new() }
+    }
+
+    /// To a little before half counts reach 2^64, from where on every half wait is refused.
+    fn jump(&mut self) {
+        let edges = (1 << 63) - u128::from(self.random.below(4000));
+        self.host.reach((edges / HZ) << 64 | ((edges % HZ) << 64) / HZ);
+    }
+
+    /// One line, and what the peripheral makes of it.
+    fn line(&mut self, out: &mut Vec<u8>) {
+        if self.left == 0 {
+            self.host = Host::taking_over(&mut self.random, self.host.now(), PERIOD);
+            self.left = 1 + self.random.below(1500);
+        }
+        self.left -= 1;
+        let start = out.len();
+        match self.random.below(30) {
+            0..=1 => out.extend(spoil::line(&mut self.random, self.host.now())),
+            2 => put(self.host.look(), out),
+            _ => put(self.host.next(&mut self.random, &self.state), out),
+        }
+        out.push(b'\n');
+        self.answers.clear();
+        self.player.play(&out[start..], &mut self.answers);
+        Bridge::words(self.player.iic(), &mut self.words);
+        self.state.copy_from_slice(&self.words);
+        self.host.reach(self.player.last().map_or(0, |at| at.raw()));
+        self.host.saw(self.player.deadline().map(|at| at.raw()));
+    }
+}
+
+/// The line of a call, without a newline.
+pub fn put((call, args): (Call, Args), out: &mut Vec<u8>) {
+    let [seconds, fraction, first, second] = core::array::from_fn(|place| args[place]);
+    let call = match call {
+        Call::Read => format!("r\t{}", first & 7),
+        Call::Write => format!("w\t{}\t{second:02x}", first & 7),
+        Call::InputPins => format!("p\t{first}\t{second}"),
+        Call::SetGate => format!("g\t{first}"),
+        Call::Advance => "v".to_string(),
+        Call::Deadline | Call::Validate | Call::Observe => "d".to_string(),
+    };
+    out.extend(format!("{seconds}\t{fraction:016x}\t{call}").bytes());
+}
+
+#[cfg(test)]
+mod tests;
