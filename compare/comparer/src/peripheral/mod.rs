@@ -22,12 +22,17 @@ const NUMBERS: [u8; 8] = [1, 2, 7, 8, 9, 10, 11, 12];
 /// Ends of calls by the number of the refusal.
 type Refusals = [u64; NUMBERS.len()];
 
+/// Where a run begins: at the default, or at a state made at random that `validate` accepts or refuses.
+const ORIGINS: [&str; 3] = ["the default", "accepted states", "refused states"];
+const DEFAULT: usize = 0;
+const ACCEPTED: usize = 1;
+const REFUSED: usize = 2;
+
 #[derive(Default)]
 struct Tally {
-    /// Calls that can change the state; each is followed by fourteen that can't.
-    calls: u64,
-    runs: u64,
-    made: u64,
+    /// By origin, runs and their calls; each call is followed by fourteen that can't change the state.
+    runs: [u64; ORIGINS.len()],
+    calls: [u64; ORIGINS.len()],
     refused: Refusals,
     deadlines: Refusals,
     validated: Refusals,
@@ -43,8 +48,14 @@ fn count(refusals: &mut Refusals, end: End) {
 }
 
 impl Tally {
+    fn calls(&self) -> u64 {
+        self.calls.iter().sum()
+    }
+
     fn print(&self) {
-        println!("runs from the default: {}, states made: {}", self.runs, self.made);
+        for (origin, name) in ORIGINS.iter().enumerate() {
+            println!("from {name:<16}{:>12} runs{:>14} calls", self.runs[origin], self.calls[origin]);
+        }
         print!("{:<10}", "refused");
         NUMBERS.iter().for_each(|number| print!("{number:>12}"));
         println!();
@@ -61,7 +72,7 @@ pub fn compare(options: &Options) -> u64 {
     let mut random = Random::new(options.seed);
     let mut tally = Tally::default();
     let start = Instant::now();
-    while tally.calls < options.count && tally.differences < 100 {
+    while tally.calls() < options.count && tally.differences < 100 {
         let most = random.pick(&[40, 400, 4000]);
         let length = 1 + random.below(most);
         from_default(&mut random, length, &mut tally);
@@ -74,8 +85,8 @@ pub fn compare(options: &Options) -> u64 {
     println!(
         "iic: seed {}, {} calls, each with 14 questions after it, {seconds:.1} s, {:.2} million calls a second",
         options.seed,
-        tally.calls,
-        tally.calls as f64 / seconds / 1e6
+        tally.calls(),
+        tally.calls() as f64 / seconds / 1e6
     );
     tally.differences
 }
@@ -116,9 +127,8 @@ fn period(set: &Set) -> u128 {
 fn from_default(random: &mut Random, length: u64, tally: &mut Tally) {
     let (set, now) = new_set(random);
     let host = Host::new(random, now, period(&set));
-    tally.runs += 1;
     match Machine::fresh() {
-        Ok(machine) => play(random, Run::new(set, &machine), machine, host, length, tally),
+        Ok(machine) => play(random, DEFAULT, Run::new(set, &machine), machine, host, length, tally),
         Err(difference) => {
             tally.differences += 1;
             println!("difference: the state before the first call: {}", difference.what);
@@ -134,14 +144,21 @@ fn from_made(random: &mut Random, tally: &mut Tally) {
     let now = if random.once_in(4) { begin } else { exact::edge(&clock, exact::count(&clock, begin)) };
     let state = states::random(random, &set, now);
     let host = Host::over_state(random, now, period(&set));
-    tally.made += 1;
     let length = 1 + random.below(6);
     let machine = Machine::new(&state);
-    play(random, Run::new(set, &machine), machine, host, length, tally);
+    play(random, ACCEPTED, Run::new(set, &machine), machine, host, length, tally);
 }
 
 /// Lets a host make calls, compares each, and shows the smallest run at a difference.
-fn play(random: &mut Random, mut run: Run, mut machine: Machine, mut host: Host, length: u64, tally: &mut Tally) {
+fn play(
+    random: &mut Random,
+    mut origin: usize,
+    mut run: Run,
+    mut machine: Machine,
+    mut host: Host,
+    length: u64,
+    tally: &mut Tally,
+) {
     let sets = Sets::new(run.set);
     let mut idle = 0;
     for step in 0..=length {
@@ -151,10 +168,17 @@ fn play(random: &mut Random, mut run: Run, mut machine: Machine, mut host: Host,
         }
         let (call, args) = if step == 0 { host.look() } else { host.next(random, machine.state()) };
         run.steps.push((call, args));
-        tally.calls += 1;
         let called = machine.call(call, &sets, &args);
         count(&mut tally.refused, machine.answer().end);
-        match called.and_then(|()| runs::ask(&mut machine, &sets, &args)) {
+        let asked = called.and_then(|()| runs::ask(&mut machine, &sets, &args));
+        if step == 0 {
+            if asked.as_ref().is_ok_and(|asked| asked.validated != End::Done) {
+                origin = REFUSED;
+            }
+            tally.runs[origin] += 1;
+        }
+        tally.calls[origin] += 1;
+        match asked {
             Ok(asked) => {
                 idle = if asked.deadline.is_some() { 0 } else { idle + 1 };
                 count(&mut tally.deadlines, asked.deadline_end);
