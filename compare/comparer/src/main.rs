@@ -1,4 +1,6 @@
 //! Compares the port with the unmodified Rust, call by call: on every boundary, then at random.
+#[cfg(test)]
+mod differences;
 mod inputs;
 mod judge;
 mod options;

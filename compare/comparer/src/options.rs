@@ -5,24 +5,30 @@ pub struct Options {
     /// Random calls of each part.
     pub count: u64,
     part: String,
+    from: String,
 }
 
 /// What can be compared by itself.
 const PARTS: [&str; 3] = ["time", "clocks", "iic"];
+/// Where runs of the peripheral can begin.
+const ORIGINS: [&str; 2] = ["default", "made"];
 
 pub fn read(mut words: impl Iterator<Item = String>) -> Result<Options, String> {
-    let mut options = Options { seed: 1, count: 1_000_000, part: "all".to_string() };
+    let mut options = Options { seed: 1, count: 1_000_000, part: "all".to_string(), from: "all".to_string() };
     while let Some(word) = words.next() {
         let value = words.next().ok_or(format!("{word} wants a value"))?;
         match word.as_str() {
             "--seed" => options.seed = number(&value)?,
             "--count" => options.count = number(&value)?,
             "--part" => options.part = value,
-            _ => return Err(format!("no option {word}: --seed N, --count N, --part NAME")),
+            "--from" => options.from = value,
+            _ => return Err(format!("no option {word}: --seed N, --count N, --part NAME, --from NAME")),
         }
     }
-    if options.parts().is_empty() {
-        return Err(format!("no part {}: all, {}", options.part, PARTS.join(", ")));
+    for (what, name, names) in [("part", &options.part, &PARTS[..]), ("beginning", &options.from, &ORIGINS)] {
+        if name != "all" && !names.contains(&name.as_str()) {
+            return Err(format!("no {what} {name}: all, {}", names.join(", ")));
+        }
     }
     Ok(options)
 }
@@ -32,6 +38,11 @@ fn number(text: &str) -> Result<u64, String> {
 }
 
 impl Options {
+    /// Whether runs begin there.
+    pub fn begins(&self, origin: &str) -> bool {
+        self.from == "all" || self.from == origin
+    }
+
     pub fn parts(&self) -> Vec<&'static str> {
         PARTS.into_iter().filter(|part| self.part == "all" || self.part == *part).collect()
     }

@@ -2,7 +2,7 @@
 use crate::inputs::{self, grid};
 use crate::judge::{self, Judge, Sets};
 use crate::options::Options;
-use crate::report::{self, Tally};
+use crate::report::{self, Partings, Tally};
 use crate::shrink;
 use std::time::Instant;
 use traffic::random::Random;
@@ -17,12 +17,14 @@ const CALLS_OF_SET: u64 = 32;
 struct Comparison {
     judge: Judge,
     tallies: Vec<Tally>,
+    partings: Partings,
 }
 
 /// Prints what was found, and returns how many differences there are.
 pub fn compare(name: &str, functions: &[Function], options: &Options) -> u64 {
     let functions: Vec<&Function> = functions.iter().collect();
-    let mut comparison = Comparison { judge: Judge::new(), tallies: vec![Tally::default(); functions.len()] };
+    let tallies = vec![Tally::default(); functions.len()];
+    let mut comparison = Comparison { judge: Judge::new(), tallies, partings: Partings::default() };
     let mut random = Random::new(options.seed);
     let start = Instant::now();
     for (row, function) in functions.iter().enumerate() {
@@ -36,6 +38,7 @@ pub fn compare(name: &str, functions: &[Function], options: &Options) -> u64 {
     let seconds = start.elapsed().as_secs_f64();
     let rows: Vec<(&Function, Tally)> = functions.into_iter().zip(comparison.tallies.iter().cloned()).collect();
     report::table(&rows);
+    comparison.partings.print();
     let calls = comparison.calls();
     println!(
         "{}: seed {}, {boundaries} calls on boundaries, {} at random, {:.1} s, {:.2} million calls a second",
@@ -74,6 +77,9 @@ impl Comparison {
         let expected = self.judge.run(function, set, sets, args);
         let agrees = self.judge.agrees(function, args, expected);
         self.tallies[row].add(&self.judge, expected, agrees);
+        if report::ran(expected) {
+            self.partings.add(function.name, [self.judge.plain.end, self.judge.checked.end, self.judge.port.end]);
+        }
         if !agrees && self.tallies[row].differences <= SHOWN {
             show(function, set, args);
         }

@@ -1,7 +1,37 @@
 //! Counts of the calls of a function by their ends, and the differences found.
 use crate::judge::{Expected, Judge};
+use std::collections::BTreeMap;
 use words::calls::{End, Function};
 use words::layout::{Args, Set};
+
+/// How often the port and the builds of the Rust end a call in ways that aren't the same: by the function, and by the ends of
+/// the plain build, the checked one and the port. Those that docs/DIFFERENCES.md names are here too.
+#[derive(Default)]
+pub struct Partings(BTreeMap<(String, String), u64>);
+
+impl Partings {
+    pub fn add(&mut self, function: &str, [plain, checked, port]: [End; 3]) {
+        if plain != port || checked != port {
+            let ends = format!("{}, {}, {}", named(plain), named(checked), named(port));
+            *self.0.entry((function.to_string(), ends)).or_default() += 1;
+        }
+    }
+
+    pub fn print(&self) {
+        println!("{:<27}{:<50}{:>12}", "partings", "plain, checked, port", "calls");
+        for ((function, ends), calls) in &self.0 {
+            println!("{function:<27}{ends:<50}{calls:>12}");
+        }
+    }
+}
+
+fn named(end: End) -> String {
+    match end {
+        End::Done => "answered".to_string(),
+        End::Refused(number) => number.to_string(),
+        End::Trapped(trap) => format!("trapped ({trap:?})"),
+    }
+}
 
 /// The refusals that the functions below the peripheral draw.
 const NUMBERS: [u8; 6] = [1, 2, 3, 7, 8, 11];
@@ -34,7 +64,7 @@ impl Tally {
 }
 
 /// Whether the Rust was called.
-fn ran(expected: Expected) -> bool {
+pub fn ran(expected: Expected) -> bool {
     !matches!(expected, Expected::Refusal(1 | 3))
 }
 

@@ -55,7 +55,7 @@ impl Generator {
     /// To a little before half counts reach 2^64, from where on every half wait is refused.
     fn jump(&mut self) {
         let edges = (1 << 63) - u128::from(self.random.below(4000));
-        self.host.reach((edges / HZ) << 64 | ((edges % HZ) << 64) / HZ);
+        self.host.reach(((edges / HZ) << 64) + ((edges % HZ) << 64) / HZ);
     }
 
     /// One line, and what the peripheral makes of it.

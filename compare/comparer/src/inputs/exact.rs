@@ -19,8 +19,8 @@ pub fn edge(clock: &Clock, edges: u64) -> u128 {
     if seconds >> 64 != 0 {
         return u128::MAX;
     }
-    let since = seconds << 64 | (rest << 64) / numerator;
-    layout::time_at(clock, 0).checked_add(since).unwrap_or(u128::MAX)
+    let since = (seconds << 64) + (rest << 64) / numerator;
+    layout::time_at(clock, 0).saturating_add(since)
 }
 
 /// How many edges lie at or before a time, at most 2^64 - 1.

@@ -27,6 +27,8 @@ pub struct Machine {
     /// The words of a state of the Rust.
     left: Vec<u64>,
     answers: [Answer; 3],
+    /// Whether the Rust got the last call.
+    ran: bool,
 }
 
 /// What differs, in words, and what was expected.
@@ -44,6 +46,7 @@ impl Machine {
             checked: Checked::state(state),
             left: Vec::new(),
             answers: [Answer::empty(), Answer::empty(), Answer::empty()],
+            ran: false,
         }
     }
 
@@ -65,9 +68,15 @@ impl Machine {
         &self.answers[0]
     }
 
+    /// How the last call ended in the plain build, the checked one and the port; none where the Rust wasn't called.
+    pub fn ends(&self) -> Option<[End; 3]> {
+        self.ran.then(|| [1, 2, 0].map(|side| self.answers[side].end))
+    }
+
     /// Runs a call everywhere and compares answer, refusal and state.
     pub fn call(&mut self, call: Call, sets: &Sets, args: &Args) -> Result<(), Difference> {
         let before = self.port;
+        self.ran = false;
         port::iic::call(call, &mut self.port, &sets.words, args, &mut self.answers[0]);
         let Some((plain, checked)) = &sets.rust else {
             return if call.takes_set() { self.unchanged(call, &before, 1) } else { Ok(()) };
@@ -75,6 +84,7 @@ impl Machine {
         if let Some(number) = added(call, &before) {
             return self.unchanged(call, &before, number);
         }
+        self.ran = true;
         Plain::call(call, &mut self.plain, plain, args, &mut self.answers[1]);
         Checked::call(call, &mut self.checked, checked, args, &mut self.answers[2]);
         self.compare(call, sets, args)

@@ -1,9 +1,10 @@
 //! The peripheral: runs of calls from the default, and a few calls from states made at random.
-mod machine;
+pub mod machine;
 mod runs;
 mod states;
 use crate::inputs::{self, exact};
 use crate::options::Options;
+use crate::report::Partings;
 use machine::{Machine, Sets};
 use runs::Run;
 use std::time::Instant;
@@ -36,6 +37,7 @@ struct Tally {
     refused: Refusals,
     deadlines: Refusals,
     validated: Refusals,
+    partings: Partings,
     differences: u64,
 }
 
@@ -75,13 +77,18 @@ pub fn compare(options: &Options) -> u64 {
     while tally.calls() < options.count && tally.differences < 100 {
         let most = random.pick(&[40, 400, 4000]);
         let length = 1 + random.below(most);
-        from_default(&mut random, length, &mut tally);
+        if options.begins("default") {
+            from_default(&mut random, length, &mut tally);
+        }
         for _ in 0..60 {
-            from_made(&mut random, &mut tally);
+            if options.begins("made") {
+                from_made(&mut random, &mut tally);
+            }
         }
     }
     let seconds = start.elapsed().as_secs_f64();
     tally.print();
+    tally.partings.print();
     println!(
         "iic: seed {}, {} calls, each with 14 questions after it, {seconds:.1} s, {:.2} million calls a second",
         options.seed,
@@ -169,6 +176,9 @@ fn play(
         let (call, args) = if step == 0 { host.look() } else { host.next(random, machine.state()) };
         run.steps.push((call, args));
         let called = machine.call(call, &sets, &args);
+        if let Some(ends) = machine.ends() {
+            tally.partings.add(&format!("{call:?} from {}", ORIGINS[origin]), ends);
+        }
         count(&mut tally.refused, machine.answer().end);
         let asked = called.and_then(|()| runs::ask(&mut machine, &sets, &args));
         if step == 0 {

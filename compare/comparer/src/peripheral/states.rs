@@ -9,9 +9,7 @@ use words::layout::{self, Set};
 pub fn random(random: &mut Random, set: &Set, now: u128) -> State {
     let mut state = [0; iic::STATE];
     let unsound = random.once_in(6);
-    for place in 0..iic::BUSY {
-        state[place] = random.word() & 0xff;
-    }
+    state[..iic::BUSY].fill_with(|| random.word() & 0xff);
     state[iic::CONTROL] |= random.pick(&[0, 0x80, 0x80, 0x80]);
     state[iic::SEEN] &= random.pick(&[state[iic::STATUS], state[iic::STATUS], 0xff]);
     if !(unsound && random.once_in(3)) {
