@@ -1,6 +1,7 @@
 //! Compares the port with the unmodified Rust, call by call: on every boundary, then at random.
 #[cfg(test)]
 mod differences;
+mod hosts;
 mod inputs;
 mod judge;
 mod options;
@@ -26,6 +27,7 @@ fn main() -> ExitCode {
         differences += match name {
             "time" => part::compare(name, calls::TIME, &options),
             "clocks" => part::compare(name, calls::CLOCKS, &options),
+            "hosts" => hosts::compare(&options),
             _ => peripheral::compare(&options),
         };
     }

@@ -9,7 +9,7 @@ pub struct Options {
 }
 
 /// What can be compared by itself.
-const PARTS: [&str; 3] = ["time", "clocks", "iic"];
+const PARTS: [&str; 4] = ["time", "clocks", "iic", "hosts"];
 /// Where runs of the peripheral can begin.
 const ORIGINS: [&str; 2] = ["default", "made"];
 

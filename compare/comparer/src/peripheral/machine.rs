@@ -160,7 +160,7 @@ fn same_state(call: Call, build: &str, rust: &[u64], port: &State) -> Result<(),
 }
 
 /// 9 and 10, which the Rust has at `validate` alone.
-fn added(call: Call, state: &State) -> Option<u8> {
+pub fn added(call: Call, state: &State) -> Option<u8> {
     if !call.changes() {
         return None;
     }

@@ -99,7 +99,7 @@ pub fn compare(options: &Options) -> u64 {
 }
 
 /// A set as `Clocks::new` makes it, at any frequency and start, and a time at which a run begins.
-fn new_set(random: &mut Random) -> (Set, u128) {
+pub fn new_set(random: &mut Random) -> (Set, u128) {
     let main = match random.below(8) {
         0..=2 => 3_686_400,
         3 => 1 + random.below(10),
@@ -126,7 +126,7 @@ fn begin(random: &mut Random, set: &Set) -> u128 {
     }
 }
 
-fn period(set: &Set) -> u128 {
+pub fn period(set: &Set) -> u128 {
     let clock = exact::clock(layout::domain(set, 0));
     exact::edge(&clock, 1).saturating_sub(layout::time_at(&clock, 0))
 }
