@@ -9,6 +9,7 @@ mod part;
 mod peripheral;
 mod report;
 mod shrink;
+mod traces;
 use std::process::ExitCode;
 use words::calls;
 
@@ -28,6 +29,7 @@ fn main() -> ExitCode {
             "time" => part::compare(name, calls::TIME, &options),
             "clocks" => part::compare(name, calls::CLOCKS, &options),
             "hosts" => hosts::compare(&options),
+            "traces" => traces::compare(&options),
             _ => peripheral::compare(&options),
         };
     }

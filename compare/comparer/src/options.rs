@@ -9,7 +9,7 @@ pub struct Options {
 }
 
 /// What can be compared by itself.
-const PARTS: [&str; 4] = ["time", "clocks", "iic", "hosts"];
+const PARTS: [&str; 5] = ["time", "clocks", "iic", "hosts", "traces"];
 /// Where runs of the peripheral can begin.
 const ORIGINS: [&str; 2] = ["default", "made"];
 

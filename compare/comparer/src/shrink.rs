@@ -1,4 +1,4 @@
-//! Makes the input of a difference smaller, word by word, as long as the difference stays.
+//! Makes the input of a difference smaller, word by word or piece by piece, as long as the difference stays.
 use crate::judge::{self, Judge};
 use words::calls::Function;
 use words::layout::{Args, Set};
@@ -59,4 +59,24 @@ fn differs(function: &Function, set: &Set, args: &Args) -> bool {
     let mut judge = Judge::new();
     let expected = judge.run(function, set, &judge::sets(set), args);
     !judge.agrees(function, args, expected)
+}
+
+/// Leaves out pieces of a list, long ones first, as long as it shows a difference.
+pub fn shorten<T: Clone>(list: &mut Vec<T>, differs: impl Fn(&[T]) -> bool) {
+    let mut length = list.len() / 2;
+    while length > 0 {
+        let mut at = 0;
+        let mut shorter = false;
+        while at + length <= list.len() {
+            let rest = [&list[..at], &list[at + length..]].concat();
+            if differs(&rest) {
+                *list = rest;
+                shorter = true;
+            } else {
+                at += length;
+            }
+        }
+        // A piece that couldn't go may be able to now.
+        length = if shorter && length == 1 { 1 } else { length / 2 };
+    }
 }

@@ -1,5 +1,6 @@
 //! The port, through the exported functions of the crate probe.
 pub mod iic;
+pub mod player;
 use words::calls::{Answer, Call, End};
 use words::layout::{Args, Out, Set};
 

@@ -1,5 +1,6 @@
 //! Runs of calls, each compared, and the smallest run that shows a difference.
 use super::machine::{Difference, Machine, Sets};
+use crate::shrink;
 use words::calls::End;
 use words::iic::{Call, State};
 use words::layout::{Args, Set};
@@ -43,10 +44,15 @@ impl Run {
     }
 
     /// The step at which the run shows a difference, and the difference.
-    pub fn difference(&self) -> Option<(usize, Difference)> {
+    fn difference(&self) -> Option<(usize, Difference)> {
+        self.at(&self.steps)
+    }
+
+    /// The same of other steps.
+    fn at(&self, steps: &[Step]) -> Option<(usize, Difference)> {
         let sets = Sets::new(self.set);
         let mut machine = Machine::new(&self.state);
-        for (place, (call, args)) in self.steps.iter().enumerate() {
+        for (place, (call, args)) in steps.iter().enumerate() {
             let asked = machine.call(*call, &sets, args).and_then(|()| ask(&mut machine, &sets, args).map(|_| ()));
             if let Err(difference) = asked {
                 return Some((place, difference));
@@ -57,36 +63,12 @@ impl Run {
 
     /// Leaves out calls as long as a difference stays.
     pub fn shorten(&mut self) {
-        while let Some((place, _)) = self.difference() {
+        if let Some((place, _)) = self.difference() {
             self.steps.truncate(place + 1);
-            let mut length = self.steps.len() / 2;
-            let mut shorter = false;
-            while length > 0 {
-                shorter |= self.without(length);
-                length /= 2;
-            }
-            if !shorter {
-                break;
-            }
         }
-    }
-
-    /// Leaves out pieces of that length; whether one could go.
-    fn without(&mut self, length: usize) -> bool {
-        let (mut at, mut shorter) = (0, false);
-        while at + length < self.steps.len() {
-            let rest = self.steps.split_off(at);
-            let whole = self.steps.clone();
-            self.steps.extend_from_slice(&rest[length..]);
-            if self.difference().is_some() {
-                shorter = true;
-            } else {
-                self.steps = whole;
-                self.steps.extend(rest);
-                at += length;
-            }
-        }
-        shorter
+        let mut steps = std::mem::take(&mut self.steps);
+        shrink::shorten(&mut steps, |steps| self.at(steps).is_some());
+        self.steps = steps;
     }
 
     pub fn print(&self) {
