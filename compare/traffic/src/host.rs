@@ -1,6 +1,7 @@
 //! A host that uses the peripheral, on a bus with others: drivers that serve registers as a program would, other masters
 //! and slaves on the lines, and calls that nobody in his senses would make.
 mod program;
+use crate::exact;
 use crate::random::Random;
 use crate::script::{self, Levels};
 use std::collections::VecDeque;
@@ -27,7 +28,8 @@ enum Others {
 
 pub struct Host {
     now: u128,
-    /// About one period of the system clock.
+    /// The system clock, and about one period of it.
+    clock: exact::Clock,
     period: u128,
     driver: Driver,
     others: Others,
@@ -39,6 +41,12 @@ pub struct Host {
     late: bool,
     /// Whether each time is later than the one before.
     later: bool,
+    /// Whether visits come at the time of any wait, be it not the next or past; whether time jumps to where counts or times
+    /// end; whether nobody waits while the peripheral holds SCL; whether what got stuck is left so.
+    astray: bool,
+    jumps: bool,
+    forced: bool,
+    patient: bool,
     /// How many of a hundred calls are hostile, and of the others how many are visits and how many are made by the others
     /// on the bus.
     hostile: u64,
@@ -58,23 +66,29 @@ pub struct Host {
 }
 
 impl Host {
-    pub fn new(random: &mut Random, now: u128, period: u128) -> Self {
+    pub fn new(random: &mut Random, now: u128, clock: exact::Clock) -> Self {
         let driver = random.pick(&[Driver::Master, Driver::Master, Driver::Slave, Driver::Synchronous, Driver::Any]);
         let others = match driver {
             Driver::Master => random.pick(&[Others::Pulling, Others::Pulling, Others::None, Others::Master]),
             Driver::Slave => random.pick(&[Others::Master, Others::Master, Others::Pulling]),
             _ => random.pick(&[Others::None, Others::Pulling, Others::Master]),
         };
+        let astray = random.once_in(8);
         let mut host = Self {
             now,
-            period: period.max(1),
+            clock,
+            period: exact::edge(&clock, 1).saturating_sub(layout::time_at(&clock, 0)).max(1),
             driver,
             others,
             told: random.pick(&[0, 50, 90, 99, 100]),
             repeats: !random.once_in(3),
             back: random.once_in(4),
-            late: random.once_in(4),
+            late: astray || random.once_in(4),
             later: false,
+            astray,
+            jumps: random.once_in(8),
+            forced: random.once_in(6),
+            patient: random.once_in(if astray { 2 } else { 8 }),
             hostile: random.pick(&[0, 0, 0, 1, 5, 30]),
             visits: random.pick(&[50, 75, 88]),
             others_act: random.pick(&[4, 8, 20]),
@@ -113,17 +127,18 @@ impl Host {
     }
 
     /// A host that finds the registers written.
-    pub fn over_state(random: &mut Random, now: u128, period: u128) -> Self {
-        let mut host = Self::new(random, now, period);
+    pub fn over_state(random: &mut Random, now: u128, clock: exact::Clock) -> Self {
+        let mut host = Self::new(random, now, clock);
         host.setup.clear();
         host
     }
 
     /// A host that takes over a peripheral in any state, and whose times are each later than the one before.
-    pub fn taking_over(random: &mut Random, now: u128, period: u128) -> Self {
-        let mut host = Self::over_state(random, now, period);
+    pub fn taking_over(random: &mut Random, now: u128, clock: exact::Clock) -> Self {
+        let mut host = Self::over_state(random, now, clock);
         host.repeats = false;
         host.back = false;
+        host.jumps = false;
         host.later = true;
         host.restart(random);
         host
@@ -163,15 +178,18 @@ impl Host {
         if self.repeats && fell_now(state, self.now) && random.once_in(3) {
             return self.call(Call::Read, self.now, [7, 0]);
         }
+        if rare(state) && random.once_in(2) {
+            return if random.once_in(2) { self.meddle(random, state) } else { self.serve(random, state) };
+        }
         match self.deadline {
             None => self.wake(random, state),
             // A wait that has passed never ends: off and on again.
-            Some(at) if at < self.now && random.once_in(10) => {
+            Some(at) if at < self.now && !self.patient && random.once_in(10) => {
                 self.restart(random);
                 self.serve(random, state)
             }
             Some(_) => match random.below(100) {
-                n if n < self.visits => self.visit(random),
+                n if n < self.visits => self.visit(random, state),
                 n if n < self.visits + self.others_act => self.others(random, state),
                 _ => self.serve(random, state),
             },
@@ -194,7 +212,7 @@ impl Host {
             self.other = [true; 2];
         }
         match random.below(20) {
-            0 => self.visit(random),
+            0 => self.visit(random, state),
             1..=7 => self.serve(random, state),
             _ => self.others(random, state),
         }
@@ -218,7 +236,9 @@ impl Host {
     /// The levels of the lines: low where anybody pulls.
     fn lines(&self, state: &State) -> Levels {
         let enabled = state[iic::CONTROL] & 0x80 != 0;
-        core::array::from_fn(|line| self.other[line] && (!enabled || state[iic::DRIVE + line] != 0))
+        let forced = self.forced && state[iic::HOLD] != 0;
+        let pulls = |line: usize| enabled && state[iic::DRIVE + line] == 0 && !(forced && line == 0);
+        core::array::from_fn(|line| self.other[line] && !pulls(line))
     }
 
     fn call(&mut self, call: Call, now: u128, operands: [u64; 2]) -> (Call, Args) {
@@ -241,6 +261,7 @@ impl Host {
         };
         let now = match self.deadline {
             _ if self.back && random.once_in(20) => self.earlier(random),
+            _ if self.jumps && random.once_in(300) => self.jump(random),
             Some(at) if !self.late && at >= self.now => next.min(at),
             _ => next,
         };
@@ -256,7 +277,12 @@ impl Host {
         }
     }
 
-    fn visit(&mut self, random: &mut Random) -> (Call, Args) {
+    fn visit(&mut self, random: &mut Random, state: &State) -> (Call, Args) {
+        if self.astray && random.once_in(3) {
+            if let Some(at) = self.wait(random, state).filter(|at| *at >= self.now || self.back) {
+                return self.call(Call::Advance, at, [0, 0]);
+            }
+        }
         let Some(at) = self.deadline else {
             return self.at(random, Call::Advance, [0, 0]);
         };
@@ -275,13 +301,32 @@ impl Host {
         self.call(Call::Advance, now, [0, 0])
     }
 
+    /// The time of one of the state's waits, if it runs on the system clock.
+    fn wait(&self, random: &mut Random, state: &State) -> Option<u128> {
+        let place = random.pick(&[iic::FILTER_WAIT, iic::SETUP_WAIT, iic::CLOCK_WAIT, iic::MONITOR_WAIT]);
+        let [present, first, second, third, count] = core::array::from_fn(|i| state[place + i]);
+        if matches!(place, iic::CLOCK_WAIT | iic::MONITOR_WAIT) {
+            return (present != 0 && second == 0).then(|| exact::half_edge(&self.clock, first));
+        }
+        ([present, first, second, third] == [1, 0, 1, 0]).then(|| exact::edge(&self.clock, count))
+    }
+
+    /// To a little before half counts reach 2^64, or before the last time.
+    fn jump(&self, random: &mut Random) -> u128 {
+        let far = match random.below(2) {
+            0 => exact::edge(&self.clock, (1 << 63) - random.below(100)),
+            _ => u128::MAX - u128::from(random.any_length()),
+        };
+        far.max(self.now)
+    }
+
     /// The others on the lines do something.
     fn others(&mut self, random: &mut Random, state: &State) -> (Call, Args) {
         let settled = (0..2).all(|i| state[iic::RAW + i] == state[iic::FILTERED + i]);
         match self.others {
             Others::None => return self.serve(random, state),
             Others::Pulling => self.pull(random, state),
-            Others::Master if !settled && !random.once_in(12) => return self.visit(random),
+            Others::Master if !settled && !random.once_in(12) => return self.visit(random, state),
             Others::Master => self.play(random, state),
         }
         let lines = self.lines(state);
@@ -318,6 +363,12 @@ impl Host {
             self.other = self.script.pop_front().unwrap_or([true; 2]);
         }
     }
+}
+
+/// A clock that stands still by itself, or a hold, without what they are about.
+fn rare(state: &State) -> bool {
+    let on = |place: usize| state[place] != 0;
+    (on(iic::SYNCHRONIZED_HOLD) || on(iic::MONITOR_WAIT)) && !on(iic::CLOCK_WAIT) || on(iic::HOLD) && !on(iic::FRAME)
 }
 
 fn fell_now(state: &State, now: u128) -> bool {

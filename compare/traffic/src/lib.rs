@@ -1,4 +1,5 @@
 //! Hosts that use the peripheral on a bus with others, and traces of what they do.
+pub mod exact;
 pub mod host;
 pub mod random;
 mod script;

@@ -1,4 +1,5 @@
 //! Traces: a peripheral is played by one host after the other, with bad lines and questions thrown in.
+use crate::exact;
 use crate::host::Host;
 use crate::random::Random;
 use crate::spoil;
@@ -7,9 +8,8 @@ use reference::Bridge;
 use words::iic::{Call, Peripheral, State, STATE};
 use words::layout::{self, Args};
 
-/// The system clock's frequency and its period.
-const HZ: u128 = 3_686_400;
-const PERIOD: u128 = (1 << 64) / HZ;
+/// The system clock: its start, numerator and denominator.
+const CLOCK: exact::Clock = [0, 0, 3_686_400, 1];
 
 struct Generator {
     random: Random,
@@ -46,7 +46,7 @@ impl Generator {
             1 => u128::from(random.any_length()),
             _ => layout::joined(random.below(1 << 40), random.word()),
         };
-        let host = Host::taking_over(&mut random, begin, PERIOD);
+        let host = Host::taking_over(&mut random, begin, CLOCK);
         let player = Player::default();
         let state = [0; STATE];
         Self { random, player, host, left: 0, state, words: Vec::new(), answers: Vec::new() }
@@ -54,14 +54,13 @@ impl Generator {
 
     /// To a little before half counts reach 2^64, from where on every half wait is refused.
     fn jump(&mut self) {
-        let edges = (1 << 63) - u128::from(self.random.below(4000));
-        self.host.reach(((edges / HZ) << 64) + ((edges % HZ) << 64) / HZ);
+        self.host.reach(exact::edge(&CLOCK, (1 << 63) - self.random.below(1000)));
     }
 
     /// One line, and what the peripheral makes of it.
     fn line(&mut self, out: &mut Vec<u8>) {
         if self.left == 0 {
-            self.host = Host::taking_over(&mut self.random, self.host.now(), PERIOD);
+            self.host = Host::taking_over(&mut self.random, self.host.now(), CLOCK);
             self.left = 1 + self.random.below(1500);
         }
         self.left -= 1;

@@ -70,7 +70,7 @@ pub fn compare(options: &Options) -> u64 {
 fn pair(random: &mut Random, idea: Idea, tally: &mut Tally) -> Result<(), String> {
     let (words, now) = peripheral::new_set(random);
     let clocks = reference::Bridge::set(&words).ok_or("a clock with a zero")?;
-    let mut host = Host::new(random, now, peripheral::period(&words));
+    let mut host = Host::new(random, now, peripheral::system(&words));
     let mut pair = Pair { idea, clocks, sides: [Side::fresh(), Side::fresh()], tally };
     pair.tally.pairs += 1;
     let most = random.pick(&[40, 400]);

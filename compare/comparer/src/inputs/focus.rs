@@ -1,5 +1,5 @@
 //! What the arguments so far are about, so that the next ones lie near what matters to them.
-use super::exact::Clock;
+use traffic::exact::Clock;
 use words::calls::Kind;
 use words::layout::{self, Set};
 

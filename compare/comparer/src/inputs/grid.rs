@@ -1,8 +1,8 @@
 //! Every boundary: all combinations of the boundaries of a function's arguments, or a random part of them where they are
 //! too many. A combination is a number, whose digits choose the boundaries.
-use super::exact;
 use super::focus::Focus;
 use super::numbers::{self, DENOMINATORS, DIVIDERS, FREQUENCIES, STAGES, WORDS};
+use traffic::exact;
 use traffic::random::Random;
 use words::calls::{Function, Kind};
 use words::layout::{self, Args, Set};

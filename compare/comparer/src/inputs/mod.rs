@@ -1,5 +1,4 @@
 //! Inputs: at random, steered towards what is rare, and every boundary.
-pub mod exact;
 mod focus;
 pub mod grid;
 mod numbers;

@@ -1,6 +1,6 @@
 //! Words, counts and times: the boundaries, and random ones that lie near them more often than not.
-use super::exact;
 use super::focus::Focus;
+use traffic::exact;
 use traffic::random::Random;
 use words::layout;
 

@@ -2,12 +2,13 @@
 pub mod machine;
 mod runs;
 mod states;
-use crate::inputs::{self, exact};
+use crate::inputs;
 use crate::options::Options;
 use crate::report::Partings;
 use machine::{Machine, Sets};
 use runs::Run;
 use std::time::Instant;
+use traffic::exact;
 use traffic::host::Host;
 use traffic::random::Random;
 use words::calls::End;
@@ -113,27 +114,30 @@ pub fn new_set(random: &mut Random) -> (Set, u128) {
 
 /// A time near the clock's start, near half counts of 2^64, near the last time, or anywhere.
 fn begin(random: &mut Random, set: &Set) -> u128 {
-    let clock = exact::clock(layout::domain(set, 0));
+    let clock = system(set);
     let start = layout::time_at(&clock, 0);
     let step = exact::edge(&clock, 1).saturating_sub(start).max(1);
     let near = u128::from(random.any_length()) % step;
     match random.below(20) {
         0 => start.saturating_sub(near),
-        1 => exact::edge(&clock, (1 << 63) - random.below(2000)).saturating_add(near),
+        1 => {
+            let before = random.pick(&[400, 2000]);
+            exact::edge(&clock, (1 << 63) - random.below(before)).saturating_add(near)
+        }
         2 => exact::edge(&clock, exact::last(&clock).saturating_sub(random.below(200))).saturating_add(near),
         3 => layout::joined(random.any_length(), random.word()),
         _ => exact::edge(&clock, random.below(1000)).saturating_add(near),
     }
 }
 
-pub fn period(set: &Set) -> u128 {
-    let clock = exact::clock(layout::domain(set, 0));
-    exact::edge(&clock, 1).saturating_sub(layout::time_at(&clock, 0))
+/// The system clock of a set.
+pub fn system(set: &Set) -> exact::Clock {
+    exact::clock(layout::domain(set, 0))
 }
 
 fn from_default(random: &mut Random, length: u64, tally: &mut Tally) {
     let (set, now) = new_set(random);
-    let host = Host::new(random, now, period(&set));
+    let host = Host::new(random, now, system(&set));
     match Machine::fresh() {
         Ok(machine) => play(random, DEFAULT, Run::new(set, &machine), machine, host, length, tally),
         Err(difference) => {
@@ -147,10 +151,10 @@ fn from_made(random: &mut Random, tally: &mut Tally) {
     let set = if random.once_in(2) { inputs::set(random) } else { new_set(random).0 };
     // On an edge of the system clock, as a rule, so that waits can end just then.
     let begin = begin(random, &set);
-    let clock = exact::clock(layout::domain(&set, 0));
+    let clock = system(&set);
     let now = if random.once_in(4) { begin } else { exact::edge(&clock, exact::count(&clock, begin)) };
     let state = states::random(random, &set, now);
-    let host = Host::over_state(random, now, period(&set));
+    let host = Host::over_state(random, now, system(&set));
     let length = 1 + random.below(6);
     let machine = Machine::new(&state);
     play(random, ACCEPTED, Run::new(set, &machine), machine, host, length, tally);

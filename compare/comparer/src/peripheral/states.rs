@@ -1,6 +1,6 @@
 //! States made at random: sound ones, and ones that no call leads to. Waits end at, just before or just after a time.
-use crate::inputs::exact;
 use crate::inputs::{divider, word};
+use traffic::exact;
 use traffic::random::Random;
 use words::iic::{self, State};
 use words::layout::{self, Set};

@@ -29,13 +29,13 @@ impl Host {
             14 => (Call::Read, [7, 0]),
             15 if self.deadline.is_none() => (Call::Write, [1, random.pick(&[0x90, 0x10])]),
             _ if self.deadline.is_none() => (Call::Write, [6, byte]),
-            _ => return self.visit(random),
+            _ => return self.visit(random, state),
         };
         self.at(random, call, operands)
     }
 
     /// The program changes its mind.
-    fn meddle(&mut self, random: &mut Random, state: &State) -> (Call, Args) {
+    pub(super) fn meddle(&mut self, random: &mut Random, state: &State) -> (Call, Args) {
         let control = state[iic::CONTROL];
         let byte = random.word() & 0xff;
         let (call, operands) = match random.below(12) {
@@ -71,7 +71,7 @@ impl Host {
                 let gate = random.below(2);
                 self.at(random, Call::SetGate, [gate, 0])
             }
-            _ => self.visit(random),
+            _ => self.visit(random, state),
         }
     }
 }

@@ -23,6 +23,12 @@ pub fn edge(clock: &Clock, edges: u64) -> u128 {
     layout::time_at(clock, 0).saturating_add(since)
 }
 
+/// The time of a half edge: an odd one lies in the middle between two edges.
+pub fn half_edge(clock: &Clock, half: u64) -> u128 {
+    let before = edge(clock, half / 2);
+    before + (edge(clock, half / 2 + half % 2) - before) / 2
+}
+
 /// How many edges lie at or before a time, at most 2^64 - 1.
 pub fn count(clock: &Clock, now: u128) -> u64 {
     let since = now.saturating_sub(layout::time_at(clock, 0));
