@@ -1,12 +1,11 @@
 //! docs/DIFFERENCES.md, row by row: how the plain build of the Rust, the checked one and the port end just the call that the
 //! page names.
 mod peripheral;
-use crate::inputs::plain_set;
+use crate::inputs::{plain_set, FREQUENCIES as DEFAULT};
 use crate::judge;
 use words::calls::{self, Answer, Call, End, Reference};
 use words::layout::{self, Set};
 
-const DEFAULT: [u64; 3] = [3_686_400, 32_768, 1_310_720];
 const FASTEST: [u64; 3] = [u64::MAX, 32_768, 1_310_720];
 /// Source and divider.
 const SYSTEM_1: [u64; 2] = [0, 1];

@@ -78,7 +78,8 @@ impl Comparison {
         let agrees = self.judge.agrees(function, args, expected);
         self.tallies[row].add(&self.judge, expected, agrees);
         if report::ran(expected) {
-            self.partings.add(function.name, [self.judge.plain.end, self.judge.checked.end, self.judge.port.end]);
+            let judge = &self.judge;
+            self.partings.add([judge.plain.end, judge.checked.end, judge.port.end], || function.name.to_string());
         }
         if !agrees && self.tallies[row].differences <= SHOWN {
             show(function, set, args);

@@ -10,17 +10,17 @@ use words::layout::{Args, Set};
 pub struct Partings(BTreeMap<(String, String), u64>);
 
 impl Partings {
-    pub fn add(&mut self, function: &str, [plain, checked, port]: [End; 3]) {
+    pub fn add(&mut self, [plain, checked, port]: [End; 3], function: impl Fn() -> String) {
         if plain != port || checked != port {
             let ends = format!("{}, {}, {}", named(plain), named(checked), named(port));
-            *self.0.entry((function.to_string(), ends)).or_default() += 1;
+            *self.0.entry((function(), ends)).or_default() += 1;
         }
     }
 
     pub fn print(&self) {
-        println!("{:<27}{:<50}{:>12}", "partings", "plain, checked, port", "calls");
+        println!("{:<32}{:<48}{:>12}", "partings", "plain, checked, port", "calls");
         for ((function, ends), calls) in &self.0 {
-            println!("{function:<27}{ends:<50}{calls:>12}");
+            println!("{function:<32}{ends:<48}{calls:>12}");
         }
     }
 }

@@ -1,6 +1,6 @@
 //! The peripheral's part of the page.
-use super::{counted, seen, BELOW_ZERO, BY_ZERO, DEFAULT, PAUSED, RUNNING, SYSTEM_2, TOO_LARGE};
-use crate::inputs::plain_set;
+use super::{counted, seen, BELOW_ZERO, BY_ZERO, PAUSED, RUNNING, SYSTEM_2, TOO_LARGE};
+use crate::inputs::{plain_set, FREQUENCIES as DEFAULT};
 use crate::peripheral::machine::{Machine, Sets};
 use words::calls::{Answer, Reference};
 use words::iic::{self, Call, Peripheral, State};

@@ -20,7 +20,7 @@ const WAIT_COUNTS: [u64; 6] = [0, 1, 2, 1 << 32, u64::MAX - 1, u64::MAX];
 /// Words, and three near what the focus is on.
 const NEAR: usize = WORDS.len() + 3;
 const SETS_OF: [[u64; 3]; 8] = [
-    [3_686_400, 32_768, 1_310_720],
+    super::FREQUENCIES,
     [0, 32_768, 1_310_720],
     [3_686_400, 0, 1_310_720],
     [3_686_400, 32_768, 0],

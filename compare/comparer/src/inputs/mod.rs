@@ -11,6 +11,9 @@ use traffic::random::Random;
 use words::calls::{Function, Kind};
 use words::layout::{self, Args, Set};
 
+/// `Frequencies::default`.
+pub const FREQUENCIES: [u64; 3] = [3_686_400, 32_768, 1_310_720];
+
 /// Random arguments of a function, each near what the ones before it are about.
 pub fn arguments(random: &mut Random, function: &Function, set: &Set, args: &mut Args) {
     let mut focus = Focus::new(set);

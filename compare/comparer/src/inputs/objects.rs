@@ -84,7 +84,7 @@ pub fn wait(random: &mut Random, set: &Set) -> [u64; layout::WAIT] {
 
 pub fn frequencies(random: &mut Random) -> [u64; layout::FREQUENCIES] {
     if random.once_in(8) {
-        return [3_686_400, 32_768, 1_310_720];
+        return super::FREQUENCIES;
     }
     core::array::from_fn(|_| {
         let n = numbers::frequency(random);

@@ -1,74 +1,20 @@
 //! The peripheral: runs of calls from the default, and a few calls from states made at random.
 pub mod machine;
 mod runs;
+mod scenes;
+mod session;
 mod states;
+mod tally;
 use crate::inputs;
 use crate::options::Options;
-use crate::report::Partings;
-use machine::{Machine, Sets};
-use runs::Run;
+use machine::Machine;
+use session::Session;
 use std::time::Instant;
+use tally::Tally;
 use traffic::exact;
 use traffic::host::Host;
 use traffic::random::Random;
-use words::calls::End;
 use words::layout::{self, Set};
-
-/// Differences that are printed.
-const SHOWN: u64 = 3;
-/// Calls without any deadline after which a run ends.
-const IDLE: u64 = 60;
-/// The refusals that the peripheral draws.
-const NUMBERS: [u8; 8] = [1, 2, 7, 8, 9, 10, 11, 12];
-
-/// Ends of calls by the number of the refusal.
-type Refusals = [u64; NUMBERS.len()];
-
-/// Where a run begins: at the default, or at a state made at random that `validate` accepts or refuses.
-const ORIGINS: [&str; 3] = ["the default", "accepted states", "refused states"];
-const DEFAULT: usize = 0;
-const ACCEPTED: usize = 1;
-const REFUSED: usize = 2;
-
-#[derive(Default)]
-struct Tally {
-    /// By origin, runs and their calls; each call is followed by fourteen that can't change the state.
-    runs: [u64; ORIGINS.len()],
-    calls: [u64; ORIGINS.len()],
-    refused: Refusals,
-    deadlines: Refusals,
-    validated: Refusals,
-    partings: Partings,
-    differences: u64,
-}
-
-fn count(refusals: &mut Refusals, end: End) {
-    if let End::Refused(number) = end {
-        if let Some(place) = NUMBERS.iter().position(|n| *n == number) {
-            refusals[place] += 1;
-        }
-    }
-}
-
-impl Tally {
-    fn calls(&self) -> u64 {
-        self.calls.iter().sum()
-    }
-
-    fn print(&self) {
-        for (origin, name) in ORIGINS.iter().enumerate() {
-            println!("from {name:<16}{:>12} runs{:>14} calls", self.runs[origin], self.calls[origin]);
-        }
-        print!("{:<10}", "refused");
-        NUMBERS.iter().for_each(|number| print!("{number:>12}"));
-        println!();
-        for (name, row) in [("calls", self.refused), ("deadline", self.deadlines), ("validate", self.validated)] {
-            print!("{name:<10}");
-            row.iter().for_each(|count| print!("{count:>12}"));
-            println!();
-        }
-    }
-}
 
 /// Prints what was found, and returns how many differences there are.
 pub fn compare(options: &Options) -> u64 {
@@ -80,6 +26,7 @@ pub fn compare(options: &Options) -> u64 {
         let length = 1 + random.below(most);
         if options.begins("default") {
             from_default(&mut random, length, &mut tally);
+            from_scene(&mut random, &mut tally);
         }
         for _ in 0..60 {
             if options.begins("made") {
@@ -89,7 +36,6 @@ pub fn compare(options: &Options) -> u64 {
     }
     let seconds = start.elapsed().as_secs_f64();
     tally.print();
-    tally.partings.print();
     println!(
         "iic: seed {}, {} calls, each with 14 questions after it, {seconds:.1} s, {:.2} million calls a second",
         options.seed,
@@ -138,12 +84,24 @@ pub fn system(set: &Set) -> exact::Clock {
 fn from_default(random: &mut Random, length: u64, tally: &mut Tally) {
     let (set, now) = new_set(random);
     let host = Host::new(random, now, system(&set));
-    match Machine::fresh() {
-        Ok(machine) => play(random, DEFAULT, Run::new(set, &machine), machine, host, length, tally),
-        Err(difference) => {
-            tally.differences += 1;
-            println!("difference: the state before the first call: {}", difference.what);
-        }
+    if let Some(mut session) = Session::fresh(set, tally) {
+        session.play(random, host, length);
+    }
+}
+
+/// A scene, and what a host makes of it.
+fn from_scene(random: &mut Random, tally: &mut Tally) {
+    let set = inputs::plain_set(inputs::start(random) >> random.below(128), inputs::FREQUENCIES);
+    let clock = system(&set);
+    let now = exact::edge(&clock, random.below(1000));
+    let scene = random.pick(&scenes::ALL);
+    let Some(mut session) = Session::fresh(set, tally) else {
+        return;
+    };
+    if let Some(now) = scenes::play(&mut session, clock, now, scene) {
+        let host = Host::over_state(random, now, clock);
+        let length = random.below(60);
+        session.play(random, host, length);
     }
 }
 
@@ -154,59 +112,7 @@ fn from_made(random: &mut Random, tally: &mut Tally) {
     let clock = system(&set);
     let now = if random.once_in(4) { begin } else { exact::edge(&clock, exact::count(&clock, begin)) };
     let state = states::random(random, &set, now);
-    let host = Host::over_state(random, now, system(&set));
+    let host = Host::over_state(random, now, clock);
     let length = 1 + random.below(6);
-    let machine = Machine::new(&state);
-    play(random, ACCEPTED, Run::new(set, &machine), machine, host, length, tally);
-}
-
-/// Lets a host make calls, compares each, and shows the smallest run at a difference.
-fn play(
-    random: &mut Random,
-    mut origin: usize,
-    mut run: Run,
-    mut machine: Machine,
-    mut host: Host,
-    length: u64,
-    tally: &mut Tally,
-) {
-    let sets = Sets::new(run.set);
-    let mut idle = 0;
-    for step in 0..=length {
-        // After the last time, and where every wait is refused, nothing moves any more.
-        if host.is_over() && random.once_in(10) || idle > IDLE {
-            break;
-        }
-        let (call, args) = if step == 0 { host.look() } else { host.next(random, machine.state()) };
-        run.steps.push((call, args));
-        let called = machine.call(call, &sets, &args);
-        if let Some(ends) = machine.ends() {
-            tally.partings.add(&format!("{call:?} from {}", ORIGINS[origin]), ends);
-        }
-        count(&mut tally.refused, machine.answer().end);
-        let asked = called.and_then(|()| runs::ask(&mut machine, &sets, &args));
-        if step == 0 {
-            if asked.as_ref().is_ok_and(|asked| asked.validated != End::Done) {
-                origin = REFUSED;
-            }
-            tally.runs[origin] += 1;
-        }
-        tally.calls[origin] += 1;
-        match asked {
-            Ok(asked) => {
-                idle = if asked.deadline.is_some() { 0 } else { idle + 1 };
-                count(&mut tally.deadlines, asked.deadline_end);
-                count(&mut tally.validated, asked.validated);
-                host.saw(asked.deadline);
-            }
-            Err(_) => {
-                tally.differences += 1;
-                if tally.differences <= SHOWN {
-                    run.shorten();
-                    run.print();
-                }
-                return;
-            }
-        }
-    }
+    Session::new(set, Machine::new(&state), tally::ACCEPTED, tally).play(random, host, length);
 }

@@ -1,0 +1,172 @@
+//! Short runs from the default into corners that a host hardly finds.
+use super::session::Session;
+use traffic::exact;
+use words::iic::{self, Call};
+use words::layout;
+
+pub struct Stage<'a, 'b> {
+    session: &'a mut Session<'b>,
+    clock: exact::Clock,
+    begin: u128,
+    now: u128,
+}
+
+/// None once a difference is found.
+type Scene = fn(&mut Stage) -> Option<()>;
+
+pub const ALL: [Scene; 9] = [
+    hold_without_frame,
+    hold_released_too_late,
+    still_until_scl_rises,
+    still_through_the_gate,
+    still_and_master_again,
+    monitor_behind_the_clock,
+    clocked_while_starting,
+    shut_too_late,
+    opened_too_late,
+];
+
+/// Plays a scene, and tells the time after it.
+pub fn play(session: &mut Session, clock: exact::Clock, now: u128, scene: Scene) -> Option<u128> {
+    let mut stage = Stage { session, clock, begin: now, now };
+    scene(&mut stage)?;
+    Some(stage.now)
+}
+
+impl Stage<'_, '_> {
+    fn call(&mut self, call: Call, operands: [u64; 2]) -> Option<()> {
+        let mut args = [0; layout::ARGS];
+        args[..2].copy_from_slice(&layout::halves(self.now));
+        args[2..4].copy_from_slice(&operands);
+        self.session.step((call, args)).map(|_| ())
+    }
+
+    fn write(&mut self, address: u64, value: u64) -> Option<()> {
+        self.call(Call::Write, [address, value])
+    }
+
+    fn gate(&mut self, gate: u64) -> Option<()> {
+        self.call(Call::SetGate, [gate, 0])
+    }
+
+    /// Visits at the time of the half wait at that place of the state.
+    fn visit(&mut self, place: usize) -> Option<()> {
+        self.now = exact::half_edge(&self.clock, self.session.state()[place + 1]);
+        self.call(Call::Advance, [0, 0])
+    }
+
+    /// Levels that pass the filter.
+    fn levels(&mut self, scl: u64, sda: u64) -> Option<()> {
+        self.call(Call::InputPins, [scl, sda])?;
+        while self.session.state()[iic::FILTER_WAIT] != 0 {
+            self.now = exact::edge(&self.clock, self.session.state()[iic::FILTER_WAIT + 4]);
+            self.call(Call::Advance, [0, 0])?;
+        }
+        Some(())
+    }
+
+    fn bits(&mut self, byte: u64, count: u32) -> Option<()> {
+        (0..count).rev().try_for_each(|bit| {
+            let sda = byte >> bit & 1;
+            [0, 1, 0].into_iter().try_for_each(|scl| self.levels(scl, sda))
+        })
+    }
+
+    /// A slave holds SCL, since a byte came while the one before it was not read.
+    fn held(&mut self) -> Option<()> {
+        self.gate(1)?;
+        self.write(5, 0xa0)?;
+        self.write(0, 0x80)?;
+        self.levels(1, 0)?;
+        self.levels(0, 0)?;
+        self.bits(0xa0 << 1, 9)?;
+        self.bits(0x55, 8)
+    }
+
+    /// A master whose start has been seen, and which waits before its first clock.
+    fn started(&mut self, rate: u64) -> Option<()> {
+        self.gate(1)?;
+        self.write(0, 0xb0 | rate)?;
+        self.write(6, 0x55)?;
+        self.write(1, 0x90)?;
+        self.levels(0, 1)?;
+        self.visit(iic::CLOCK_WAIT)?;
+        self.levels(1, 1)?;
+        self.levels(1, 0)
+    }
+
+    /// A master that has let SCL go and looks whether it rises; made a slave, so that its clock stops at the next step.
+    fn stopped(&mut self) -> Option<()> {
+        self.started(0)?;
+        self.visit(iic::CLOCK_WAIT)?;
+        self.levels(0, 0)?;
+        self.visit(iic::CLOCK_WAIT)?;
+        self.write(0, 0x90)?;
+        self.visit(iic::CLOCK_WAIT)
+    }
+
+    /// Back at the time at which it looks: the clock is to stand still, and there is none.
+    fn still(&mut self) -> Option<()> {
+        self.stopped()?;
+        self.visit(iic::MONITOR_WAIT)
+    }
+}
+
+/// SCL rises though it is held; the bus is free when the frame ends.
+fn hold_without_frame(stage: &mut Stage) -> Option<()> {
+    stage.held()?;
+    stage.levels(1, 0)?;
+    stage.write(5, 0xa1)?;
+    stage.write(5, 0xa0)?;
+    stage.levels(0, 0)?;
+    stage.call(Call::Read, [7, 0])
+}
+
+fn hold_released_too_late(stage: &mut Stage) -> Option<()> {
+    stage.held()?;
+    stage.now = u128::MAX;
+    stage.call(Call::Read, [7, 0])
+}
+
+fn still_until_scl_rises(stage: &mut Stage) -> Option<()> {
+    stage.still()?;
+    stage.levels(1, 0)
+}
+
+fn still_through_the_gate(stage: &mut Stage) -> Option<()> {
+    stage.still()?;
+    stage.gate(0)?;
+    stage.gate(1)
+}
+
+fn still_and_master_again(stage: &mut Stage) -> Option<()> {
+    stage.still()?;
+    stage.write(0, 0xb0)
+}
+
+/// Master again, at an earlier time: the new clock wait ends before the monitor's.
+fn monitor_behind_the_clock(stage: &mut Stage) -> Option<()> {
+    stage.stopped()?;
+    stage.now = stage.begin;
+    stage.write(0, 0xb0)?;
+    stage.visit(iic::MONITOR_WAIT)
+}
+
+/// Others clock a whole frame before the master's first clock, and once more.
+fn clocked_while_starting(stage: &mut Stage) -> Option<()> {
+    stage.started(0x0f)?;
+    stage.bits(0, 10)
+}
+
+fn shut_too_late(stage: &mut Stage) -> Option<()> {
+    stage.started(0)?;
+    stage.now = u128::MAX;
+    stage.gate(0)
+}
+
+fn opened_too_late(stage: &mut Stage) -> Option<()> {
+    stage.started(0)?;
+    stage.gate(0)?;
+    stage.now = u128::MAX;
+    stage.gate(1)
+}

@@ -1,0 +1,56 @@
+//! Counts of calls, by where their run began and how they ended.
+use crate::report::Partings;
+use words::calls::End;
+
+/// The refusals that the peripheral draws.
+const NUMBERS: [u8; 8] = [1, 2, 7, 8, 9, 10, 11, 12];
+
+/// Ends of calls by the number of the refusal.
+type Refusals = [u64; NUMBERS.len()];
+
+/// Where a run begins: at the default, or at a state made at random that `validate` accepts or refuses.
+pub const ORIGINS: [&str; 3] = ["the default", "accepted states", "refused states"];
+pub const DEFAULT: usize = 0;
+pub const ACCEPTED: usize = 1;
+pub const REFUSED: usize = 2;
+
+#[derive(Default)]
+pub struct Tally {
+    /// By origin, runs and their calls; each call is followed by fourteen that can't change the state.
+    pub runs: [u64; ORIGINS.len()],
+    pub calls: [u64; ORIGINS.len()],
+    pub refused: Refusals,
+    pub deadlines: Refusals,
+    pub validated: Refusals,
+    pub partings: Partings,
+    pub differences: u64,
+}
+
+pub fn count(refusals: &mut Refusals, end: End) {
+    if let End::Refused(number) = end {
+        if let Some(place) = NUMBERS.iter().position(|n| *n == number) {
+            refusals[place] += 1;
+        }
+    }
+}
+
+impl Tally {
+    pub fn calls(&self) -> u64 {
+        self.calls.iter().sum()
+    }
+
+    pub fn print(&self) {
+        for (origin, name) in ORIGINS.iter().enumerate() {
+            println!("from {name:<16}{:>12} runs{:>14} calls", self.runs[origin], self.calls[origin]);
+        }
+        print!("{:<10}", "refused");
+        NUMBERS.iter().for_each(|number| print!("{number:>12}"));
+        println!();
+        for (name, row) in [("calls", self.refused), ("deadline", self.deadlines), ("validate", self.validated)] {
+            print!("{name:<10}");
+            row.iter().for_each(|count| print!("{count:>12}"));
+            println!();
+        }
+        self.partings.print();
+    }
+}
