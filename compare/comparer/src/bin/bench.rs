@@ -1,5 +1,5 @@
-//! Times `Clock::after` and `Clock::edges_before` of the port against the Rust's, on the same inputs in the same run.
-//! Either side is one call of an `extern "C"` function for an input, which is not inlined. The Rust's clock is made once,
+//! Times `Clock::after` and `Clock::edges_before` of the port against the Rust's, on the same inputs in the same run, and
+//! `play_trace` against the plain player on one trace. Of the clocks either side is one call of an `extern "C"` function for an input, which is not inlined. The Rust's clock is made once,
 //! as its users do; the port's is its three values, handed over in each call.
 use reference::time::{Clock, Time};
 use std::hint::black_box;
@@ -12,6 +12,9 @@ const INPUTS: usize = 50_000;
 const SLICE: usize = 500;
 const PASSES: usize = 60;
 const DAY: u64 = 86_400;
+/// Lines of the trace, and how often it is played by each.
+const LINES: usize = 1_000_000;
+const PLAYS: usize = 5;
 /// Numerator and denominator of the frequencies.
 const RATES: [(u64, u64); 3] = [(3_686_400, 1), (32_768, 8), (6_000_000_000, 1)];
 
@@ -56,7 +59,39 @@ fn row(name: &str, span: &str, rate: (u64, u64), [port, rust]: [f64; 2]) {
     println!("{name:<20}{hz:>14} {span:<14}{port:>8.1}{rust:>8.1}{:>8.2}", port / rust);
 }
 
-fn run() -> Result<(), String> {
+/// Seconds that a call takes, and what it answers.
+fn seconds<T>(call: impl FnOnce() -> T) -> (f64, T) {
+    let start = Instant::now();
+    let answer = black_box(call());
+    (start.elapsed().as_secs_f64(), answer)
+}
+
+fn median(mut times: Vec<f64>) -> f64 {
+    times.sort_by(f64::total_cmp);
+    times[times.len() / 2]
+}
+
+/// A trace, by the port and the plain player in turns.
+fn traces() -> Result<(), String> {
+    let trace = traffic::trace::trace(1, LINES);
+    let expected = plain_player::play(&trace, usize::MAX).bytes;
+    let mut out = vec![1; expected.len() + plain_player::ROOM];
+    let (mut port, mut plain) = (Vec::new(), Vec::new());
+    for _ in 0..PLAYS {
+        let (time, written) = seconds(|| port::player::play(&trace, &mut out));
+        if out[..written] != expected {
+            return Err("the answer lines part".to_string());
+        }
+        port.push(time);
+        plain.push(seconds(|| plain_player::play(&trace, usize::MAX)).0);
+    }
+    println!("seconds for a trace of {LINES} lines: port {port:.3?}, plain player {plain:.3?}");
+    let [port, plain] = [port, plain].map(median);
+    println!("medians: port {port:.3}, plain player {plain:.3}, ratio {:.2}", port / plain);
+    Ok(())
+}
+
+fn clocks() -> Result<(), String> {
     println!(
         "nanoseconds a call, over {INPUTS} random inputs, the best of {PASSES} passes for each {SLICE} of them; port and Rust take turns"
     );
@@ -90,7 +125,7 @@ fn run() -> Result<(), String> {
 }
 
 fn main() -> std::process::ExitCode {
-    match run() {
+    match clocks().and_then(|()| traces()) {
         Ok(()) => std::process::ExitCode::SUCCESS,
         Err(reason) => {
             eprintln!("bench: {reason}");
