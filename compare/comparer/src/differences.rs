@@ -40,12 +40,14 @@ fn check(call: Call, set: &Set, given: &[u64], expected: [&str; 3]) {
     assert_eq!(answers.map(|answer| seen(&answer, function.gives)), expected, "{} {given:?}", function.name);
 }
 
-/// The system prescaler's words: anchor, phase, running, what the stages have counted, and behind them stage and parent.
+/// A prescaler's words: anchor, phase, running, what the stages have counted, and behind them stage and parent.
+fn staged(stages: usize, counted: u64, stage: u64, parent: u64) -> Vec<u64> {
+    [&[0, 0, 1][..], &vec![counted; stages], &[stage, parent]].concat()
+}
+
+/// The system prescaler's.
 fn prescaler(counted: u64, stage: u64, parent: u64) -> Vec<u64> {
-    let mut words = vec![0, 0, 1];
-    words.extend([counted; layout::STAGES_S]);
-    words.extend([stage, parent]);
-    words
+    staged(layout::STAGES_S, counted, stage, parent)
 }
 
 /// A set whose system prescaler has counted that much at each stage.
@@ -99,6 +101,13 @@ fn stage_out_of_range() {
     check(Call::HighS, &set, &prescaler(0, 14, 0), ["answered [1]", "answered [1]", "3"]);
     check(Call::HighS, &set, &prescaler(0, 65, 0), ["answered [1]", TOO_LARGE, "3"]);
     check(Call::CrossingsS, &set, &[0, 0, 0], indexed);
+    // The watch clock's has 8.
+    let watch = |stage: u64| staged(layout::STAGES_W, 0, stage, 0);
+    check(Call::TicksW, &set, &watch(0), indexed);
+    check(Call::TicksW, &set, &watch(9), [NO_PLACE, NO_PLACE, "3"]);
+    check(Call::ParentEdgeW, &set, &watch(9), [NO_PLACE, NO_PLACE, "3"]);
+    check(Call::HighW, &set, &watch(9), ["answered [1]", "answered [1]", "3"]);
+    check(Call::TicksW, &set, &watch(8), ["answered [0]"; 3]);
 }
 
 #[test]
