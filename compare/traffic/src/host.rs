@@ -1,9 +1,11 @@
 //! A host that uses the peripheral, on a bus with others: drivers that serve registers as a program would, other masters
 //! and slaves on the lines, and calls that nobody in his senses would make.
+mod bus;
+mod calm;
 mod program;
 use crate::exact;
 use crate::random::Random;
-use crate::script::{self, Levels};
+use crate::script::Levels;
 use std::collections::VecDeque;
 use words::iic::{self, Call, State};
 use words::layout::{self, Args};
@@ -63,6 +65,11 @@ pub struct Host {
     script: VecDeque<Levels>,
     setup: VecDeque<(u64, u64)>,
     deadline: Option<u128>,
+    /// A host that does what its driver is there for, and nothing else.
+    calm: bool,
+    /// Bytes that it has still to send or take, and whether the others have seen to this low phase of SCL.
+    left: u64,
+    seen_to: bool,
 }
 
 impl Host {
@@ -99,6 +106,9 @@ impl Host {
             script: VecDeque::new(),
             setup: VecDeque::new(),
             deadline: None,
+            calm: false,
+            left: 0,
+            seen_to: false,
         };
         host.set_up(random);
         host
@@ -133,14 +143,19 @@ impl Host {
         host
     }
 
-    /// A host that takes over a peripheral in any state, and whose times are each later than the one before.
+    /// A host that takes over a peripheral in any state, and whose times are each later than the one before. Most know what
+    /// they do.
     pub fn taking_over(random: &mut Random, now: u128, clock: exact::Clock) -> Self {
         let mut host = Self::over_state(random, now, clock);
         host.repeats = false;
         host.back = false;
         host.jumps = false;
         host.later = true;
-        host.restart(random);
+        if random.once_in(6) {
+            host.restart(random);
+        } else {
+            host.calm_down(random);
+        }
         host
     }
 
@@ -167,13 +182,15 @@ impl Host {
             return self.at(random, Call::SetGate, [1, 0]);
         }
         let lines = self.lines(state);
-        let given = [state[iic::RAW] != 0, state[iic::RAW + 1] != 0];
-        if lines != given && random.below(100) < self.told {
+        if lines != self.given(state) && random.below(100) < self.told {
             let now = if self.repeats || random.once_in(2) { self.now } else { self.now.saturating_add(1) };
             return self.call(Call::InputPins, now, lines.map(u64::from));
         }
         if let Some((address, value)) = self.setup.pop_front() {
             return self.at(random, Call::Write, [address, value]);
+        }
+        if self.calm {
+            return self.next_calm(random, state);
         }
         if self.repeats && fell_now(state, self.now) && random.once_in(3) {
             return self.call(Call::Read, self.now, [7, 0]);
@@ -233,14 +250,6 @@ impl Host {
         self.deadline = deadline;
     }
 
-    /// The levels of the lines: low where anybody pulls.
-    fn lines(&self, state: &State) -> Levels {
-        let enabled = state[iic::CONTROL] & 0x80 != 0;
-        let forced = self.forced && state[iic::HOLD] != 0;
-        let pulls = |line: usize| enabled && state[iic::DRIVE + line] == 0 && !(forced && line == 0);
-        core::array::from_fn(|line| self.other[line] && !pulls(line))
-    }
-
     fn call(&mut self, call: Call, now: u128, operands: [u64; 2]) -> (Call, Args) {
         self.now = if self.later { now.max(self.now.saturating_add(1)) } else { now };
         let mut args = [0; layout::ARGS];
@@ -262,7 +271,7 @@ impl Host {
         let now = match self.deadline {
             _ if self.back && random.once_in(20) => self.earlier(random),
             _ if self.jumps && random.once_in(300) => self.jump(random),
-            Some(at) if !self.late && at >= self.now => next.min(at),
+            Some(at) if !self.late && at >= self.now => next.min(at - u128::from(self.later && at > self.now)),
             _ => next,
         };
         self.call(call, now, operands)
@@ -318,50 +327,6 @@ impl Host {
             _ => u128::MAX - u128::from(random.any_length()),
         };
         far.max(self.now)
-    }
-
-    /// The others on the lines do something.
-    fn others(&mut self, random: &mut Random, state: &State) -> (Call, Args) {
-        let settled = (0..2).all(|i| state[iic::RAW + i] == state[iic::FILTERED + i]);
-        match self.others {
-            Others::None => return self.serve(random, state),
-            Others::Pulling => self.pull(random, state),
-            Others::Master if !settled && !random.once_in(12) => return self.visit(random, state),
-            Others::Master => self.play(random, state),
-        }
-        let lines = self.lines(state);
-        self.at(random, Call::InputPins, lines.map(u64::from))
-    }
-
-    fn pull(&mut self, random: &mut Random, state: &State) {
-        self.other[0] = !random.once_in(if self.other[0] { 12 } else { 2 });
-        if state[iic::FILTERED] != 0 && !random.once_in(400) {
-            return;
-        }
-        let [present, _, _, phase, _, transmit] = core::array::from_fn(|i| state[iic::FRAME + i]);
-        let low = match (present, phase, transmit) {
-            (1, 0, 1) => self.contended,
-            (1, 0, _) => 50,
-            (1, _, 1) => 80,
-            _ => self.contended,
-        };
-        self.other[1] = random.below(100) >= low;
-    }
-
-    fn play(&mut self, random: &mut Random, state: &State) {
-        if self.script.is_empty() {
-            let address = state[iic::ADDRESS] as u8;
-            if address & 1 != 0 && !random.once_in(6) {
-                script::clocks(random, &mut self.script);
-            } else {
-                script::transfer(random, address, &mut self.script);
-            }
-        }
-        // While somebody stretches the clock the master waits, as a rule.
-        let stretched = self.other[0] && state[iic::FILTERED] == 0 && state[iic::DRIVE] == 0;
-        if !stretched || random.once_in(20) {
-            self.other = self.script.pop_front().unwrap_or([true; 2]);
-        }
     }
 }
 

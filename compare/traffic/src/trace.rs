@@ -61,7 +61,7 @@ impl Generator {
     fn line(&mut self, out: &mut Vec<u8>) {
         if self.left == 0 {
             self.host = Host::taking_over(&mut self.random, self.host.now(), CLOCK);
-            self.left = 1 + self.random.below(1500);
+            self.left = 1 + self.random.below(4000);
         }
         self.left -= 1;
         let start = out.len();
