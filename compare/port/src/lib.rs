@@ -1,4 +1,4 @@
-//! The port, through the exported functions of the crate probe.
+//! The port, through the exported functions of the crates probe and player.
 pub mod iic;
 pub mod player;
 use words::calls::{Answer, Call, End};

@@ -14,7 +14,7 @@ pub struct Stage<'a, 'b> {
 /// None once a difference is found.
 type Scene = fn(&mut Stage) -> Option<()>;
 
-pub const ALL: [Scene; 9] = [
+pub const ALL: [Scene; 10] = [
     hold_without_frame,
     hold_released_too_late,
     still_until_scl_rises,
@@ -24,6 +24,7 @@ pub const ALL: [Scene; 9] = [
     clocked_while_starting,
     shut_too_late,
     opened_too_late,
+    extended_past_the_counts,
 ];
 
 /// Plays a scene, and tells the time after it.
@@ -169,4 +170,19 @@ fn opened_too_late(stage: &mut Stage) -> Option<()> {
     stage.gate(0)?;
     stage.now = u128::MAX;
     stage.gate(1)
+}
+
+/// A byte with a wait behind it, for which the half counts don't reach: it begins a little before they end, more or less.
+fn extended_past_the_counts(stage: &mut Stage) -> Option<()> {
+    let before = 220 + exact::count(&stage.clock, stage.begin) % 150;
+    stage.now = exact::edge(&stage.clock, (1 << 63) - before);
+    stage.write(2, 0x40)?;
+    stage.started(0)?;
+    stage.visit(iic::CLOCK_WAIT)?;
+    stage.levels(0, 0)?;
+    [1, 0].repeat(8).into_iter().try_for_each(|scl| {
+        stage.visit(iic::CLOCK_WAIT)?;
+        let sda = stage.session.state()[iic::DRIVE + 1];
+        stage.levels(scl, sda)
+    })
 }

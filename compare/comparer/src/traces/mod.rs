@@ -17,7 +17,9 @@ const ALPHABET: &[u8] = b"0123456789abcdef\t\t\t\n\nrwpgvd- A\r";
 struct Comparison {
     random: Random,
     program: Program,
-    traces: u64,
+    /// Traces played by `play_trace`, traces fed to the program, and the lines of both.
+    played: u64,
+    fed: u64,
     lines: u64,
     differences: u64,
 }
@@ -33,7 +35,7 @@ pub fn compare(options: &Options) -> u64 {
     };
     let start = Instant::now();
     let random = Random::new(options.seed);
-    let mut comparison = Comparison { random, program, traces: 0, lines: 0, differences: 0 };
+    let mut comparison = Comparison { random, program, played: 0, fed: 0, lines: 0, differences: 0 };
     comparison.section("buffers of 0 to 400 bytes", Comparison::buffers);
     comparison.section("bytes at random", Comparison::noise);
     comparison.section("one byte damaged", Comparison::damage);
@@ -50,11 +52,11 @@ pub fn compare(options: &Options) -> u64 {
 
 impl Comparison {
     fn section(&mut self, name: &str, run: impl FnOnce(&mut Self)) {
-        let (traces, lines, differences) = (self.traces, self.lines, self.differences);
+        let before = [self.played, self.fed, self.lines, self.differences];
         run(self);
-        let (traces, lines) = (self.traces - traces, self.lines - lines);
-        let differences = self.differences - differences;
-        println!("traces, {name:<26}{traces:>10} traces{lines:>12} lines{differences:>6} differences");
+        let after = [self.played, self.fed, self.lines, self.differences];
+        let [played, fed, lines, differences] = core::array::from_fn(|i| after[i] - before[i]);
+        println!("{name:<28}{played:>10} played{fed:>8} fed{lines:>12} lines{differences:>6} differences");
     }
 
     /// Every size of buffer from 0 to 400 bytes, so that every line of a short trace is once the first without room.
@@ -66,12 +68,16 @@ impl Comparison {
     }
 
     fn noise(&mut self) {
-        for _ in 0..20_000 {
-            let length = self.random.below(400);
+        for round in 0..20_000 {
+            let long = round % 1000 == 0;
+            let length = self.random.below(if long { 100_000 } else { 400 });
             let any = self.random.once_in(2);
             let byte = |random: &mut Random| if any { random.word() as u8 } else { random.pick(ALPHABET) };
             let trace: Vec<u8> = (0..length).map(|_| byte(&mut self.random)).collect();
             self.check(&trace, 10_000);
+            if long {
+                self.feed(&trace, Feeding::Whole);
+            }
         }
     }
 
@@ -83,7 +89,11 @@ impl Comparison {
                 let (before, after) = trace.split_at(place);
                 let any = [self.random.word() as u8, self.random.pick(ALPHABET)];
                 for middle in [&any[..1], &any[1..], &[], &[after[0], after[0]]] {
-                    self.check(&[before, middle, &after[1..]].concat(), 10_000);
+                    let damaged = [before, middle, &after[1..]].concat();
+                    self.check(&damaged, 10_000);
+                    if self.random.once_in(400) {
+                        self.feed(&damaged, Feeding::Whole);
+                    }
                 }
             }
         }
@@ -94,6 +104,7 @@ impl Comparison {
         for most in [1, 1, 2, 30, 1000] {
             let trace = self.trace(500);
             self.feed(&trace, Feeding::Pieces(most));
+            self.feed(&trace, Feeding::Bytes);
         }
         // Lines much longer than what the program can hold, and one that is the last.
         for end in [&b"\n0\t0000000000000001\tv\n"[..], b""] {
@@ -122,7 +133,7 @@ impl Comparison {
     /// `play_trace` against the plain player, in a buffer of that size.
     fn check(&mut self, trace: &[u8], size: usize) {
         let played = plain_player::play(trace, size);
-        self.traces += 1;
+        self.played += 1;
         self.lines += played.lines as u64;
         if !players::agrees(trace, size, &played.bytes) {
             self.differs("play_trace", trace, |part| {
@@ -133,12 +144,11 @@ impl Comparison {
 
     /// The program against the plain player.
     fn feed(&mut self, trace: &[u8], feeding: Feeding) {
-        let parts = |part: &[u8]| {
-            let said = self.program.play(part, feeding);
-            said != Ok(plain_player::play(part, usize::MAX).bytes)
-        };
-        if parts(trace) {
-            let program = self.program.clone();
+        let played = plain_player::play(trace, usize::MAX);
+        self.fed += 1;
+        self.lines += played.lines as u64;
+        let program = self.program.clone();
+        if program.play(trace, feeding) != Ok(played.bytes) {
             self.differs("play", trace, |part| {
                 program.play(part, feeding) != Ok(plain_player::play(part, usize::MAX).bytes)
             });

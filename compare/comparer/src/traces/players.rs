@@ -25,8 +25,9 @@ pub struct Program {
 /// How the program gets its standard input.
 #[derive(Clone, Copy)]
 pub enum Feeding {
-    /// By a pipe.
+    /// By a pipe, in one write or one for each byte.
     Whole,
+    Bytes,
     /// Each read returns so many bytes, though fewer at the end.
     Pieces(usize),
 }
@@ -43,7 +44,8 @@ impl Program {
     /// What the program writes.
     pub fn play(&self, trace: &[u8], feeding: Feeding) -> Result<Vec<u8>, String> {
         let said = match feeding {
-            Feeding::Whole => self.piped(trace),
+            Feeding::Whole => self.piped(trace, trace.len().max(1)),
+            Feeding::Bytes => self.piped(trace, 1),
             Feeding::Pieces(most) => self.by_datagrams(trace, most),
         };
         said.map_err(|reason| format!("{}: {reason}", self.path.display()))
@@ -53,12 +55,12 @@ impl Program {
         Command::new(&self.path).stdin(input).stdout(Stdio::piped()).spawn()
     }
 
-    fn piped(&self, trace: &[u8]) -> std::io::Result<Vec<u8>> {
+    fn piped(&self, trace: &[u8], most: usize) -> std::io::Result<Vec<u8>> {
         let mut child = self.start(Stdio::piped())?;
         let input = child.stdin.take();
         thread::scope(|scope| {
             // The program may stop reading; what it wrote is judged, not that.
-            scope.spawn(move || input.map(|mut input| input.write_all(trace)));
+            scope.spawn(move || input.map(|mut input| trace.chunks(most).try_for_each(|part| input.write_all(part))));
             written(child)
         })
     }
