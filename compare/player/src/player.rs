@@ -4,6 +4,7 @@ use reference::mcu::clocks::{Clocks, Frequencies};
 use reference::mcu::iic::Iic;
 use reference::{Error, Time};
 use std::fmt;
+use std::io::Write;
 
 /// Refusal 4.
 const MALFORMED: u8 = 4;
@@ -26,6 +27,9 @@ enum Value {
     Bit(bool),
     Time(Time),
 }
+
+/// The fourth.
+struct Levels(Option<[bool; 2]>);
 
 impl Default for Player {
     fn default() -> Self {
@@ -58,12 +62,8 @@ impl Player {
             Ok(value) => (0, value),
             Err(number) => (number, Value::None),
         };
-        out.extend_from_slice(format!("{}\t{refusal}\t{value}\t", self.lines).as_bytes());
-        match self.iic.pins() {
-            Some(levels) => out.extend(levels.map(|level| b'0' + u8::from(level))),
-            None => out.push(b'-'),
-        }
-        out.extend_from_slice(format!("\t{:02x}\n", self.iic.peek(STATUS)).as_bytes());
+        let (number, levels, status) = (self.lines, Levels(self.iic.pins()), self.iic.peek(STATUS));
+        writeln!(out, "{number}\t{refusal}\t{value}\t{levels}\t{status:02x}").expect("a vector takes all");
         refusal
     }
 
@@ -87,6 +87,15 @@ impl Player {
             Call::Visit => iic.advance(now, clocks)?,
         }
         Ok(Value::None)
+    }
+}
+
+impl fmt::Display for Levels {
+    fn fmt(&self, f: &mut fmt::Formatter<'_>) -> fmt::Result {
+        match self.0 {
+            Some([scl, sda]) => write!(f, "{}{}", u8::from(scl), u8::from(sda)),
+            None => write!(f, "-"),
+        }
     }
 }
 
