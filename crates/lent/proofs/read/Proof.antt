@@ -26,7 +26,7 @@ use sound.WpLaws.{FmC, fmOf, WpFn-mono}
 use denote.RattleType.{owns}
 use denote.Laws.{Rel, Is, Shows, shows}
 use denote.Memory.{mem, cellAt, pointee}
-use denote.Plain.{uint-vals, uint-tells, uint-makes, uint-lawful}
+use denote.Plain.{uint-vals, uint-tells, uint-lawful}
 use denote.Builtin.{u16}
 use denote.Ref.{RefT, MutRef, ptr-vals, mut-tells}
 use denote.Signature.{plain}
@@ -65,7 +65,7 @@ use Rattle.lent.proofs.read.Key.{name as #lent}
 use Rattle.lent.proofs.read as lent
 use Rattle.lent.proofs.read.Statement as stated
 use Rattle.lent.proofs.read.Code as code
-use Rattle.lent.proofs.Lent.{type-P, type-time, type-clocks, type-byte, mir-P, result-of, Single, typed-P, typed-time, typed-clocks, typed-byte, singles}
+use Rattle.lent.proofs.Lent.{type-P, type-time, type-clocks, type-byte, mir-P, result-of, Single, typed-P, typed-time, typed-clocks, typed-byte, singles, own-u16, own-time, own-clocks}
 
 abbrev stayed : Stays (lent.ended .signature .params) (lent.ended .kept)
 stayed = (stay-ref (0 ∷ []) tt (plain (λ _. T.the-row)), (stay-none (λ _. u16) yes, (stay-none (λ _. Tm.the-row) yes, (stay-none (λ _. Ck.the-row) yes, tt))))
@@ -142,8 +142,7 @@ module _ {M : Type 1} (𝓤 : URA M) (H : Heap 𝓤) (A : Atoms 𝓤) (W : Given
       qed W (‵ (fobs γ (T.the-row .coded .code (r .state))) ∷ ‵ (fbor κ (Body (mem T.the-row) b o γ)) ∷ ‵ (flft κ q) ∷ []) ∵
       suffices ! _ (ends-at 𝓤 H A lent.ended stayed (lent.clauses 𝓤 H A at-mem run) W (((κ, tt), (q, tt), tt, x, at), tt) v (r .answer) (r .state, (tt, (tt, (tt, tt)))) (tt, (tt, (tt, (tt, tt))))) $
       says ! (ap (λ (s : ReadOut). s .answer) e, ap (λ (s : ReadOut). s .state) e) $ nothing ! $ move ! (3 ∷ 0 ∷ []) $ join ! $ frame ! $
-      feqI ! (List Val) (vptr b o ∷ []) (vptr b o ∷ []) refl $ fjoin3 ! $ nothing ! $
-      owned ! Ck.the-row (Is Ck.the-row) (LL.makes Ck.the-type Ck′.the-plain 𝓤 H A) x3 _ x3-is $ fjoin ! $ owned ! Tm.the-row (Is Tm.the-row) (LL.makes Tm.the-type Tm′.the-plain 𝓤 H A) x2 _ x2-is $ fjoin ! $ owned ! u16 (Is u16) (uint-makes 𝓤 H A W w16) x1 _ x1-is $ fjoin ! $ move ! (1 ∷ 0 ∷ []) $ fjoin ! $
+      feqI ! (List Val) (vptr b o ∷ []) (vptr b o ∷ []) refl $ fjoin3 ! $ nothing ! $ own-clocks ! x3 v3 x3-is $ own-time ! x2 v2 x2-is $ own-u16 ! x1 v1 x1-is $ move ! (1 ∷ 0 ∷ []) $ fjoin ! $
       owned ! An.the-row (Is An.the-row) (EL.makes An.the-type An′.the-plain 𝓤 H A) (r .answer) _ is $ move ! (1 ∷ 0 ∷ []) $ done !
 
   -- what the callee's triple binds outside, and that the caller has what it asks
@@ -152,7 +151,7 @@ module _ {M : Type 1} (𝓤 : URA M) (H : Heap 𝓤) (A : Atoms 𝓤) (W : Given
 
   goes-core : (u : Val) → ent 𝓤 (sem 𝓤 H A (T.the-row .own h (u ∷ []))) (Core 𝓤 H A at-mem run .pre (to-core u))
   goes-core u =
-      qed W (‵ (T.the-row .own h (u ∷ [])) ∷ []) ∵ nothing ! $ owned ! Ck.the-row (Is Ck.the-row) (LL.makes Ck.the-type Ck′.the-plain 𝓤 H A) x3 _ x3-is $ fjoin ! $ owned ! Tm.the-row (Is Tm.the-row) (LL.makes Tm.the-type Tm′.the-plain 𝓤 H A) x2 _ x2-is $ fjoin ! $ owned ! u16 (Is u16) (uint-makes 𝓤 H A W w16) x1 _ x1-is $ fjoin ! $
+      qed W (‵ (T.the-row .own h (u ∷ [])) ∷ []) ∵ nothing ! $ own-clocks ! x3 v3 x3-is $ own-time ! x2 v2 x2-is $ own-u16 ! x1 v1 x1-is $
       move ! (1 ∷ 0 ∷ []) $ fjoin ! $ nothing ! $ join ! $ frame ! $ done !
 
   module _ (C : Calls 𝓤 H) (Λ : Loops 𝓤 H) (fm : FmC 𝓤 H (W .laws) C) (known : Triple 𝓤 (C #core) (Core 𝓤 H A at-mem run)) (ν : Sym) (named-P τP τA τ2 τ3 : Ty) (d : ℕ) (mir-is : T.the-row .mir ≡ τP ∷ [])
@@ -167,7 +166,8 @@ module _ {M : Type 1} (𝓤 : URA M) (H : Heap 𝓤) (A : Atoms 𝓤) (W : Given
 
     walk : ent 𝓤 (onEntry 𝓤 H A lent.signature (κ, tt) (q, tt) x at) (WpFn 𝓤 H C Λ fn args Post)
     walk =
-        qed W ((‵ (flft κ q) ⊛ ‵ ftrue) ∷ ‵ (owns (MutRef (named 0) κ T.the-row ∷ u16 ∷ Tm.the-row ∷ Ck.the-row ∷ []) x at) ∷ []) ∵ split ! $ move ! (2 ∷ []) $ fsplit ! $ fsplit3 ! $ drop ! $ move ! (0 ∷ 1 ∷ 3 ∷ []) $
+        qed W ((‵ (flft κ q) ⊛ ‵ ftrue) ∷ ‵ (owns (MutRef (named 0) κ T.the-row ∷ u16 ∷ Tm.the-row ∷ Ck.the-row ∷ []) x at) ∷ []) ∵ split ! $ move ! (2 ∷ []) $ fsplit ! $ fsplit3 ! $
+        drop ! $ move ! (0 ∷ 1 ∷ 3 ∷ []) $
         -- [obs; the borrow; the token; what the other parameters own; true]
         enter ! C Λ fn args _ $
         alloc1 ! (λ l0. alloc1 ! (λ l1. alloc1 ! (λ l2. alloc1 ! (λ l3. alloc1 ! (λ l4. alloc1 ! (λ l5. alloc1 ! (λ l6. alloc0 ! $ params1 ! $
@@ -180,7 +180,8 @@ module _ {M : Type 1} (𝓤 : URA M) (H : Heap 𝓤) (A : Atoms 𝓤) (W : Given
         -- the call
         move ! (1 ∷ []) $ use1 W (raw (Core 𝓤 H A at-mem run .pre (to-core (p .0)))) (goes-core (p .0)) $
         calls-at ! fm (Core 𝓤 H A at-mem run) known (to-core (p .0)) (and-then ! (load ! (from ! (stop !)) (look ! 7 refl)) (and-then ! (load ! (from ! (stop !)) (look ! 13 refl)) (and-then ! (load ! (from ! (stop !)) (look ! 11 refl)) (and-then ! (load ! (from ! (stop !)) (look ! 9 refl)) (no-more !))))) (λ v.
-        use1 W (later (some (λ (r : ReadOut). (‵ ftrue ⊛ ‵ (St.the-row .own r (v ∷ []))) ⊛ raw (ensured 𝓤 H A core.ended (core.clauses 𝓤 H A at-mem run) tt (h, (x1, (x2, (x3, tt)))) tt r)))) (id⊢ 𝓤 _) $ await ! tt $ pick ! (λ r.
+        use1 W (later (some (λ (r : ReadOut). (‵ ftrue ⊛ ‵ (St.the-row .own r (v ∷ []))) ⊛ raw (ensured 𝓤 H A core.ended (core.clauses 𝓤 H A at-mem run) tt (h, (x1, (x2, (x3, tt)))) tt r)))) (id⊢ 𝓤 _) $
+        await ! tt $ pick ! (λ r.
         split ! $ move ! (1 ∷ []) $ use1 W (raw (fact 𝓤 (r ≡ readOf h x1 x2 x3))) (core-of 𝓤 H A at-mem run h x1 x2 x3 r) $ heard ! (r ≡ readOf h x1 x2 x3) (λ e. split ! $ drop ! $
         peeks ! St.the-row (Is St.the-row) (shows 𝓤 H A St.the-row) r (v ∷ []) (λ is. peeks ! St.the-row Parts (partss 𝓤 H A) r (v ∷ []) (λ z. drop ! $
         -- [0 the struct's cell; 1 the open borrow; 2 obs; 3 auth; 4 _6; 6 _5; 8 _4; 10 _3; 12 _2; 14 _1; 16 room for _0; …]
@@ -192,7 +193,8 @@ module _ {M : Type 1} (𝓤 : URA M) (H : Heap 𝓤) (A : Atoms 𝓤) (W : Given
         rewrite ! 0 (λ (ts : List Ty). ‵ (cellAt fullShare ts (z .1 ∷ []) b o)) (sym mir-is) refl $ closes ! tt T.the-row (r .state) (z .1 ∷ []) b o $
         -- [0 obs; 1 the borrow; 2 the token; 3 _6; 5 _5; 7 _4; 9 _3; 11 _2; 13 _1; 15 _0; …]
         returns ! (look ! 15 refl) $ forget ! 3 refl $ forget ! 5 refl $ forget ! 7 refl $ forget ! 9 refl $ forget ! 11 refl $ forget ! 13 refl $ forget ! 15 refl $
-        move ! (15 ∷ 16 ∷ []) $ free1 ! $ move ! (13 ∷ 14 ∷ []) $ free1 ! $ move ! (11 ∷ 12 ∷ []) $ free1 ! $ move ! (9 ∷ 10 ∷ []) $ free1 ! $ move ! (7 ∷ 8 ∷ []) $ free1 ! $ move ! (5 ∷ 6 ∷ []) $ free1 ! $ move ! (3 ∷ 4 ∷ []) $ free1 ! $ free0 ! $
+        move ! (15 ∷ 16 ∷ []) $ free1 ! $ move ! (13 ∷ 14 ∷ []) $ free1 ! $ move ! (11 ∷ 12 ∷ []) $ free1 ! $ move ! (9 ∷ 10 ∷ []) $ free1 ! $ move ! (7 ∷ 8 ∷ []) $ free1 ! $
+        move ! (5 ∷ 6 ∷ []) $ free1 ! $ move ! (3 ∷ 4 ∷ []) $ free1 ! $ free0 ! $
         keep ! (0 ∷ 1 ∷ 2 ∷ []) $ by ! (exits r (z .0) e (z .3))))))))))))))))
 
 module _ {M : Type 1} (𝓤 : URA M) (H : Heap 𝓤) (A : Atoms 𝓤) (W : Given 𝓤 H A) (at-mem : Memory → SProp 𝓤) (run : Routine → Fun 𝓤) where

@@ -26,7 +26,7 @@ use sound.WpLaws.{FmC, fmOf, WpFn-mono}
 use denote.RattleType.{owns}
 use denote.Laws.{Rel, Is, Shows, shows}
 use denote.Memory.{mem, cellAt, pointee}
-use denote.Plain.{uint-vals, uint-tells, uint-makes, uint-lawful}
+use denote.Plain.{uint-vals, uint-tells, uint-lawful}
 use denote.Builtin.{u8, u16}
 use denote.Ref.{RefT, MutRef, ptr-vals, mut-tells}
 use denote.Signature.{plain}
@@ -65,7 +65,7 @@ use Rattle.lent.proofs.write.Key.{name as #lent}
 use Rattle.lent.proofs.write as lent
 use Rattle.lent.proofs.write.Statement as stated
 use Rattle.lent.proofs.write.Code as code
-use Rattle.lent.proofs.Lent.{type-P, type-time, type-clocks, type-ended, mir-P, result-of, Single, typed-P, typed-time, typed-clocks, typed-ended, singles}
+use Rattle.lent.proofs.Lent.{type-P, type-time, type-clocks, type-ended, mir-P, result-of, Single, typed-P, typed-time, typed-clocks, typed-ended, singles, own-u8, own-u16, own-time, own-clocks}
 
 abbrev stayed : Stays (lent.ended .signature .params) (lent.ended .kept)
 stayed = (stay-ref (0 ∷ []) tt (plain (λ _. T.the-row)), (stay-none (λ _. u16) yes, (stay-none (λ _. u8) yes, (stay-none (λ _. Tm.the-row) yes, (stay-none (λ _. Ck.the-row) yes, tt)))))
@@ -142,8 +142,8 @@ module _ {M : Type 1} (𝓤 : URA M) (H : Heap 𝓤) (A : Atoms 𝓤) (W : Given
       qed W (‵ (fobs γ (T.the-row .coded .code (r .state))) ∷ ‵ (fbor κ (Body (mem T.the-row) b o γ)) ∷ ‵ (flft κ q) ∷ []) ∵
       suffices ! _ (ends-at 𝓤 H A lent.ended stayed (lent.clauses 𝓤 H A at-mem run) W (((κ, tt), (q, tt), tt, x, at), tt) v (r .ended) (r .state, (tt, (tt, (tt, (tt, tt))))) (tt, (tt, (tt, (tt, (tt, tt)))))) $
       says ! (ap (λ (s : Stepped). s .ended) e, ap (λ (s : Stepped). s .state) e) $ nothing ! $ move ! (3 ∷ 0 ∷ []) $ join ! $ frame ! $
-      feqI ! (List Val) (vptr b o ∷ []) (vptr b o ∷ []) refl $ fjoin3 ! $ nothing ! $
-      owned ! Ck.the-row (Is Ck.the-row) (LL.makes Ck.the-type Ck′.the-plain 𝓤 H A) x4 _ x4-is $ fjoin ! $ owned ! Tm.the-row (Is Tm.the-row) (LL.makes Tm.the-type Tm′.the-plain 𝓤 H A) x3 _ x3-is $ fjoin ! $ owned ! u8 (Is u8) (uint-makes 𝓤 H A W w8) x2 _ x2-is $ fjoin ! $ owned ! u16 (Is u16) (uint-makes 𝓤 H A W w16) x1 _ x1-is $ fjoin ! $ move ! (1 ∷ 0 ∷ []) $ fjoin ! $
+      feqI ! (List Val) (vptr b o ∷ []) (vptr b o ∷ []) refl $ fjoin3 ! $ nothing ! $ own-clocks ! x4 v4 x4-is $ own-time ! x3 v3 x3-is $ own-u8 ! x2 v2 x2-is $ own-u16 ! x1 v1 x1-is $
+      move ! (1 ∷ 0 ∷ []) $ fjoin ! $
       owned ! An.the-row (Is An.the-row) (EL.makes An.the-type An′.the-plain 𝓤 H A) (r .ended) _ is $ move ! (1 ∷ 0 ∷ []) $ done !
 
   -- what the callee's triple binds outside, and that the caller has what it asks
@@ -152,7 +152,7 @@ module _ {M : Type 1} (𝓤 : URA M) (H : Heap 𝓤) (A : Atoms 𝓤) (W : Given
 
   goes-core : (u : Val) → ent 𝓤 (sem 𝓤 H A (T.the-row .own h (u ∷ []))) (Core 𝓤 H A at-mem run .pre (to-core u))
   goes-core u =
-      qed W (‵ (T.the-row .own h (u ∷ [])) ∷ []) ∵ nothing ! $ owned ! Ck.the-row (Is Ck.the-row) (LL.makes Ck.the-type Ck′.the-plain 𝓤 H A) x4 _ x4-is $ fjoin ! $ owned ! Tm.the-row (Is Tm.the-row) (LL.makes Tm.the-type Tm′.the-plain 𝓤 H A) x3 _ x3-is $ fjoin ! $ owned ! u8 (Is u8) (uint-makes 𝓤 H A W w8) x2 _ x2-is $ fjoin ! $ owned ! u16 (Is u16) (uint-makes 𝓤 H A W w16) x1 _ x1-is $ fjoin ! $
+      qed W (‵ (T.the-row .own h (u ∷ [])) ∷ []) ∵ nothing ! $ own-clocks ! x4 v4 x4-is $ own-time ! x3 v3 x3-is $ own-u8 ! x2 v2 x2-is $ own-u16 ! x1 v1 x1-is $
       move ! (1 ∷ 0 ∷ []) $ fjoin ! $ nothing ! $ join ! $ frame ! $ done !
 
   module _ (C : Calls 𝓤 H) (Λ : Loops 𝓤 H) (fm : FmC 𝓤 H (W .laws) C) (known : Triple 𝓤 (C #core) (Core 𝓤 H A at-mem run)) (ν : Sym) (named-P τP τA τ3 τ4 : Ty) (d : ℕ) (mir-is : T.the-row .mir ≡ τP ∷ [])
@@ -167,11 +167,13 @@ module _ {M : Type 1} (𝓤 : URA M) (H : Heap 𝓤) (A : Atoms 𝓤) (W : Given
 
     walk : ent 𝓤 (onEntry 𝓤 H A lent.signature (κ, tt) (q, tt) x at) (WpFn 𝓤 H C Λ fn args Post)
     walk =
-        qed W ((‵ (flft κ q) ⊛ ‵ ftrue) ∷ ‵ (owns (MutRef (named 0) κ T.the-row ∷ u16 ∷ u8 ∷ Tm.the-row ∷ Ck.the-row ∷ []) x at) ∷ []) ∵ split ! $ move ! (2 ∷ []) $ fsplit ! $ fsplit3 ! $ drop ! $ move ! (0 ∷ 1 ∷ 3 ∷ []) $
+        qed W ((‵ (flft κ q) ⊛ ‵ ftrue) ∷ ‵ (owns (MutRef (named 0) κ T.the-row ∷ u16 ∷ u8 ∷ Tm.the-row ∷ Ck.the-row ∷ []) x at) ∷ []) ∵ split ! $ move ! (2 ∷ []) $ fsplit ! $ fsplit3 ! $
+        drop ! $ move ! (0 ∷ 1 ∷ 3 ∷ []) $
         -- [obs; the borrow; the token; what the other parameters own; true]
         enter ! C Λ fn args _ $
         alloc1 ! (λ l0. alloc1 ! (λ l1. alloc1 ! (λ l2. alloc1 ! (λ l3. alloc1 ! (λ l4. alloc1 ! (λ l5. alloc1 ! (λ l6. alloc1 ! (λ l7. alloc0 ! $ params1 ! $
-        pass1 ! (init ! 12 refl (tt, tt)) $ pass1 ! (init ! 10 refl (uint-lawful 𝓤 H A W w16 .typed x1 _ x1-is .0)) $ pass1 ! (init ! 8 refl (uint-lawful 𝓤 H A W w8 .typed x2 _ x2-is .0)) $ pass1 ! (init ! 6 refl ty-3) $ pass1 ! (init ! 4 refl ty-4) $ pass0 ! $
+        pass1 ! (init ! 12 refl (tt, tt)) $ pass1 ! (init ! 10 refl (uint-lawful 𝓤 H A W w16 .typed x1 _ x1-is .0)) $ pass1 ! (init ! 8 refl (uint-lawful 𝓤 H A W w8 .typed x2 _ x2-is .0)) $
+        pass1 ! (init ! 6 refl ty-3) $ pass1 ! (init ! 4 refl ty-4) $ pass0 ! $
         move ! (16 ∷ 17 ∷ 18 ∷ []) $ opens ! tt T.the-row {h = h} b o (λ us. move ! (1 ∷ []) $ peeks ! T.the-row Single (singles 𝓤 H A) h us (λ p.
         rewrite ! 0 (λ (ws : List Val). ‵ (T.the-row .own h ws)) (p .1) refl $ rewrite ! 1 (λ (ws : List Val). ‵ (cellAt fullShare (T.the-row .mir) ws b o)) (p .1) refl $
         rewrite ! 1 (λ (ts : List Ty). ‵ (cellAt fullShare ts (p .0 ∷ []) b o)) mir-is refl $ move ! (1 ∷ 0 ∷ []) $
@@ -180,7 +182,8 @@ module _ {M : Type 1} (𝓤 : URA M) (H : Heap 𝓤) (A : Atoms 𝓤) (W : Given
         -- the call
         move ! (1 ∷ []) $ use1 W (raw (Core 𝓤 H A at-mem run .pre (to-core (p .0)))) (goes-core (p .0)) $
         calls-at ! fm (Core 𝓤 H A at-mem run) known (to-core (p .0)) (and-then ! (load ! (from ! (stop !)) (look ! 7 refl)) (and-then ! (load ! (from ! (stop !)) (look ! 15 refl)) (and-then ! (load ! (from ! (stop !)) (look ! 13 refl)) (and-then ! (load ! (from ! (stop !)) (look ! 11 refl)) (and-then ! (load ! (from ! (stop !)) (look ! 9 refl)) (no-more !)))))) (λ v.
-        use1 W (later (some (λ (r : Stepped). (‵ ftrue ⊛ ‵ (St.the-row .own r (v ∷ []))) ⊛ raw (ensured 𝓤 H A core.ended (core.clauses 𝓤 H A at-mem run) tt (h, (x1, (x2, (x3, (x4, tt))))) tt r)))) (id⊢ 𝓤 _) $ await ! tt $ pick ! (λ r.
+        use1 W (later (some (λ (r : Stepped). (‵ ftrue ⊛ ‵ (St.the-row .own r (v ∷ []))) ⊛ raw (ensured 𝓤 H A core.ended (core.clauses 𝓤 H A at-mem run) tt (h, (x1, (x2, (x3, (x4, tt))))) tt r)))) (id⊢ 𝓤 _) $
+        await ! tt $ pick ! (λ r.
         split ! $ move ! (1 ∷ []) $ use1 W (raw (fact 𝓤 (r ≡ writeOf h x1 x2 x3 x4))) (core-of 𝓤 H A at-mem run h x1 x2 x3 x4 r) $ heard ! (r ≡ writeOf h x1 x2 x3 x4) (λ e. split ! $ drop ! $
         peeks ! St.the-row (Is St.the-row) (shows 𝓤 H A St.the-row) r (v ∷ []) (λ is. peeks ! St.the-row Parts (partss 𝓤 H A) r (v ∷ []) (λ z. drop ! $
         -- [0 the struct's cell; 1 the open borrow; 2 obs; 3 auth; 4 _7; 6 _6; 8 _5; 10 _4; 12 _3; 14 _2; 16 _1; 18 room for _0; …]
@@ -192,7 +195,8 @@ module _ {M : Type 1} (𝓤 : URA M) (H : Heap 𝓤) (A : Atoms 𝓤) (W : Given
         rewrite ! 0 (λ (ts : List Ty). ‵ (cellAt fullShare ts (z .1 ∷ []) b o)) (sym mir-is) refl $ closes ! tt T.the-row (r .state) (z .1 ∷ []) b o $
         -- [0 obs; 1 the borrow; 2 the token; 3 _7; 5 _6; 7 _5; 9 _4; 11 _3; 13 _2; 15 _1; 17 _0; …]
         returns ! (look ! 17 refl) $ forget ! 3 refl $ forget ! 5 refl $ forget ! 7 refl $ forget ! 9 refl $ forget ! 11 refl $ forget ! 13 refl $ forget ! 15 refl $ forget ! 17 refl $
-        move ! (17 ∷ 18 ∷ []) $ free1 ! $ move ! (15 ∷ 16 ∷ []) $ free1 ! $ move ! (13 ∷ 14 ∷ []) $ free1 ! $ move ! (11 ∷ 12 ∷ []) $ free1 ! $ move ! (9 ∷ 10 ∷ []) $ free1 ! $ move ! (7 ∷ 8 ∷ []) $ free1 ! $ move ! (5 ∷ 6 ∷ []) $ free1 ! $ move ! (3 ∷ 4 ∷ []) $ free1 ! $ free0 ! $
+        move ! (17 ∷ 18 ∷ []) $ free1 ! $ move ! (15 ∷ 16 ∷ []) $ free1 ! $ move ! (13 ∷ 14 ∷ []) $ free1 ! $ move ! (11 ∷ 12 ∷ []) $ free1 ! $ move ! (9 ∷ 10 ∷ []) $ free1 ! $
+        move ! (7 ∷ 8 ∷ []) $ free1 ! $ move ! (5 ∷ 6 ∷ []) $ free1 ! $ move ! (3 ∷ 4 ∷ []) $ free1 ! $ free0 ! $
         keep ! (0 ∷ 1 ∷ 2 ∷ []) $ by ! (exits r (z .0) e (z .3)))))))))))))))))
 
 module _ {M : Type 1} (𝓤 : URA M) (H : Heap 𝓤) (A : Atoms 𝓤) (W : Given 𝓤 H A) (at-mem : Memory → SProp 𝓤) (run : Routine → Fun 𝓤) where

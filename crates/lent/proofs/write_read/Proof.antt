@@ -27,7 +27,7 @@ use sound.WpLaws.{FmC, fmOf, WpFn-mono}
 use denote.RattleType.{RattleType, owns}
 use denote.Laws.{Is, shows}
 use denote.Memory.{mem, cellAt, partOf, pointee}
-use denote.Plain.{uint-vals, uint-tells, uint-makes, uint-lawful}
+use denote.Plain.{uint-vals, uint-tells, uint-lawful}
 use denote.Builtin.{u8, u16}
 use denote.Ref.{RefT, MutRef}
 use denote.Lend.{lends-ref, ref-back}
@@ -71,7 +71,7 @@ use Rattle.lent.proofs.write_read.Key.{name as #me}
 use Rattle.lent.proofs.write_read as me
 use Rattle.lent.proofs.write_read.Statement as stated
 use Rattle.lent.proofs.write_read.Code as code
-use Rattle.lent.proofs.Lent.{type-P, type-time, type-clocks, type-byte, type-ended, mir-P, Single, singles, typed-P, typed-time, typed-clocks, typed-byte, typed-ended}
+use Rattle.lent.proofs.Lent.{type-P, type-time, type-clocks, type-byte, type-ended, mir-P, Single, singles, typed-P, typed-time, typed-clocks, typed-byte, typed-ended, own-P, own-u8, own-u16, own-time, own-clocks}
 
 abbrev stayed : Stays (me.ended .signature .params) (me.ended .kept)
 stayed = (
@@ -175,14 +175,8 @@ module _ {M : Type 1} (𝓤 : URA M) (H : Heap 𝓤) (A : Atoms 𝓤) (W : Given
   exits r v e is =
       qed W (‵ ftrue ∷ []) ∵ suffices ! _ (ends-at 𝓤 H A me.ended stayed (me.clauses 𝓤 H A at-mem run) W ((tt, tt, tt, x, at), tt) v r
       (tt, (tt, (tt, (tt, (tt, (tt, (tt, tt))))))) (tt, (tt, (tt, (tt, (tt, (tt, (tt, tt)))))))) $ says ! e $
-      owned ! St.the-row (Is St.the-row) (LL.makes St.the-type St′.the-plain 𝓤 H A) r _ is $ nothing ! $
-      owned ! Ck.the-row (Is Ck.the-row) (LL.makes Ck.the-type Ck′.the-plain 𝓤 H A) x6 _ x6-is $ fjoin ! $
-      owned ! Tm.the-row (Is Tm.the-row) (LL.makes Tm.the-type Tm′.the-plain 𝓤 H A) x5 _ x5-is $ fjoin ! $
-      owned ! u16 (Is u16) (uint-makes 𝓤 H A W w16) x4 _ x4-is $ fjoin ! $
-      owned ! Tm.the-row (Is Tm.the-row) (LL.makes Tm.the-type Tm′.the-plain 𝓤 H A) x3 _ x3-is $ fjoin ! $
-      owned ! u8 (Is u8) (uint-makes 𝓤 H A W w8) x2 _ x2-is $ fjoin ! $
-      owned ! u16 (Is u16) (uint-makes 𝓤 H A W w16) x1 _ x1-is $ fjoin ! $
-      owned ! T.the-row (Is T.the-row) (LL.makes T.the-type T′.the-plain 𝓤 H A) h _ h-is $ fjoin ! $ nothing ! $ keep ! (0 ∷ 1 ∷ 2 ∷ []) $ done !
+      owned ! St.the-row (Is St.the-row) (LL.makes St.the-type St′.the-plain 𝓤 H A) r _ is $ nothing ! $ own-clocks ! x6 v6 x6-is $ own-time ! x5 v5 x5-is $ own-u16 ! x4 v4 x4-is $
+      own-time ! x3 v3 x3-is $ own-u8 ! x2 v2 x2-is $ own-u16 ! x1 v1 x1-is $ own-P ! h u h-is $ nothing ! $ keep ! (0 ∷ 1 ∷ 2 ∷ []) $ done !
 
   -- a reference to the local at l while it holds s, what a callee's triple binds outside, and that the caller has what it asks
   abbrev ref : Iic → ℕ → GName → RefT Iic
@@ -202,11 +196,8 @@ module _ {M : Type 1} (𝓤 : URA M) (H : Heap 𝓤) (A : Atoms 𝓤) (W : Given
 
   goes-write : (s : Iic) (α l : ℕ) (γ : GName) → ent 𝓤 (sep 𝓤 (A .lft (α ∷ []) fullShare) (sem 𝓤 H A (ref-own s α l γ))) (Write 𝓤 H A at-mem run .pre (bind-write s α l γ))
   goes-write s α l γ =
-      qed W (‵ (flft (α ∷ []) fullShare) ∷ ‵ (ref-own s α l γ) ∷ []) ∵ nothing ! $
-      owned ! Ck.the-row (Is Ck.the-row) (LL.makes Ck.the-type Ck′.the-plain 𝓤 H A) x6 _ x6-is $ fjoin ! $
-      owned ! Tm.the-row (Is Tm.the-row) (LL.makes Tm.the-type Tm′.the-plain 𝓤 H A) x3 _ x3-is $ fjoin ! $
-      owned ! u8 (Is u8) (uint-makes 𝓤 H A W w8) x2 _ x2-is $ fjoin ! $
-      owned ! u16 (Is u16) (uint-makes 𝓤 H A W w16) x1 _ x1-is $ fjoin ! $ move ! (2 ∷ 0 ∷ []) $ fjoin ! $ nothing ! $ move ! (2 ∷ 0 ∷ []) $ join ! $ join ! $ frame ! $ done !
+      qed W (‵ (flft (α ∷ []) fullShare) ∷ ‵ (ref-own s α l γ) ∷ []) ∵ nothing ! $ own-clocks ! x6 v6 x6-is $ own-time ! x3 v3 x3-is $ own-u8 ! x2 v2 x2-is $ own-u16 ! x1 v1 x1-is $
+      move ! (2 ∷ 0 ∷ []) $ fjoin ! $ nothing ! $ move ! (2 ∷ 0 ∷ []) $ join ! $ join ! $ frame ! $ done !
 
   abbrev ReadArg : Type 0
   ReadArg = RefT Iic × (ℕ × (Time × (Clocks × Unit {0})))
@@ -219,10 +210,8 @@ module _ {M : Type 1} (𝓤 : URA M) (H : Heap 𝓤) (A : Atoms 𝓤) (W : Given
 
   goes-read : (s : Iic) (α l : ℕ) (γ : GName) → ent 𝓤 (sep 𝓤 (A .lft (α ∷ []) fullShare) (sem 𝓤 H A (ref-own s α l γ))) (Read 𝓤 H A at-mem run .pre (bind-read s α l γ))
   goes-read s α l γ =
-      qed W (‵ (flft (α ∷ []) fullShare) ∷ ‵ (ref-own s α l γ) ∷ []) ∵ nothing ! $
-      owned ! Ck.the-row (Is Ck.the-row) (LL.makes Ck.the-type Ck′.the-plain 𝓤 H A) x6 _ x6-is $ fjoin ! $
-      owned ! Tm.the-row (Is Tm.the-row) (LL.makes Tm.the-type Tm′.the-plain 𝓤 H A) x5 _ x5-is $ fjoin ! $
-      owned ! u16 (Is u16) (uint-makes 𝓤 H A W w16) x4 _ x4-is $ fjoin ! $ move ! (2 ∷ 0 ∷ []) $ fjoin ! $ nothing ! $ move ! (2 ∷ 0 ∷ []) $ join ! $ join ! $ frame ! $ done !
+      qed W (‵ (flft (α ∷ []) fullShare) ∷ ‵ (ref-own s α l γ) ∷ []) ∵ nothing ! $ own-clocks ! x6 v6 x6-is $ own-time ! x5 v5 x5-is $ own-u16 ! x4 v4 x4-is $ move ! (2 ∷ 0 ∷ []) $ fjoin ! $
+      nothing ! $ move ! (2 ∷ 0 ∷ []) $ join ! $ join ! $ frame ! $ done !
 
   -- the last values of a callee's parameters: the peripheral's, and nothing of the others
   abbrev WriteEnds : Type 0
@@ -248,50 +237,67 @@ module _ {M : Type 1} (𝓤 : URA M) (H : Heap 𝓤) (A : Atoms 𝓤) (W : Given
     walk : ent 𝓤 (onEntry 𝓤 H A me.signature tt tt x at) (WpFn 𝓤 H C Λ fn args Post)
     walk =
         qed W (‵ ftrue ∷ ‵ (owns (T.the-row ∷ u16 ∷ u8 ∷ Tm.the-row ∷ u16 ∷ Tm.the-row ∷ Ck.the-row ∷ []) x at) ∷ []) ∵ enter ! C Λ fn args _ $
-        alloc1 ! (λ l0. alloc1 ! (λ l1. alloc1 ! (λ l2. alloc1 ! (λ l3. alloc1 ! (λ l4. alloc1 ! (λ l5. alloc1 ! (λ l6. alloc1 ! (λ l7. alloc1 ! (λ l8. alloc1 ! (λ l9. alloc1 ! (λ l10. alloc1 ! (λ l11. alloc1 ! (λ l12. alloc1 ! (λ l13. alloc0 ! $ params1 ! $
-        pass1 ! (init ! 24 refl (ty-P h u h-is)) $ pass1 ! (init ! 22 refl (uint-lawful 𝓤 H A W w16 .typed x1 _ x1-is .0)) $ pass1 ! (init ! 20 refl (uint-lawful 𝓤 H A W w8 .typed x2 _ x2-is .0)) $ pass1 ! (init ! 18 refl ty-3) $
+        alloc1 ! (λ l0. alloc1 ! (λ l1. alloc1 ! (λ l2. alloc1 ! (λ l3. alloc1 ! (λ l4. alloc1 ! (λ l5. alloc1 ! (λ l6. alloc1 ! (λ l7. alloc1 ! (λ l8. alloc1 ! (λ l9. alloc1 ! (λ l10. alloc1 ! (λ l11. alloc1 ! (λ l12. alloc1 ! (λ l13. alloc0 ! $
+        params1 ! $
+        pass1 ! (init ! 24 refl (ty-P h u h-is)) $ pass1 ! (init ! 22 refl (uint-lawful 𝓤 H A W w16 .typed x1 _ x1-is .0)) $
+        pass1 ! (init ! 20 refl (uint-lawful 𝓤 H A W w8 .typed x2 _ x2-is .0)) $ pass1 ! (init ! 18 refl ty-3) $
         pass1 ! (init ! 16 refl (uint-lawful 𝓤 H A W w16 .typed x4 _ x4-is .0)) $ pass1 ! (init ! 14 refl ty-5) $ pass1 ! (init ! 12 refl ty-6) $ pass0 ! $
         -- [0 _13; 2 _12; 4 _11; 6 _10; 8 _9; 10 _8; 12 _7; 14 _6; 16 _5; 18 _4; 20 _3; 22 _2; 24 _1; 26 room for _0; …]
         assigns ! (of-opd ! (load ! (from ! (stop !)) (look ! 24 refl))) (from ! (stop !)) (init ! 10 refl (ty-P h u h-is)) $
         assigns ! (addr ! (from ! (stop !))) (from ! (stop !)) (init ! 4 refl (tt, tt)) $
         -- the local is lent
         owned ! T.the-row (Is T.the-row) (LL.makes T.the-type T′.the-plain 𝓤 H A) h _ h-is $ move ! (11 ∷ 0 ∷ []) $ use2 W (‵ (mem T.the-row .lies h l8 0)) (lie 𝓤 H A W τP mir-is h u l8) $
-        lft-new ! tt (λ α. move ! (1 ∷ []) $ use1 W (later (some (λ (γ : GName). ‵ (ref-own h α l8 γ) ⊛ ‵ (flent (α ∷ []) (Body (mem T.the-row) l8 0 γ))))) (lends-ref 𝓤 H A W T.the-row (named 0) (α ∷ []) h l8 0) $ await ! tt $ pick ! (λ γ. split ! $
+        lft-new ! tt (λ α. move ! (1 ∷ []) $
+        use1 W (later (some (λ (γ : GName). ‵ (ref-own h α l8 γ) ⊛ ‵ (flent (α ∷ []) (Body (mem T.the-row) l8 0 γ))))) (lends-ref 𝓤 H A W T.the-row (named 0) (α ∷ []) h l8 0) $ await ! tt $
+        pick ! (λ γ. split ! $
         move ! (2 ∷ 0 ∷ []) $ use2 W (raw (Write 𝓤 H A at-mem run .pre (bind-write h α l8 γ))) (goes-write h α l8 γ) $
         -- the write: [0 what it asks; 1 the lender's part; 2 _13; 4 _12; 6 _11; 8 _10; 10 _9; 12 what frees _8; 13 _7; 15 _6; 17 _5; 19 _4; 21 _3; 23 _2; 25 _1; 27 room for _0; …]
         calls-at ! fm (Write 𝓤 H A at-mem run) known-w (bind-write h α l8 γ) (and-then ! (load ! (from ! (stop !)) (look ! 6 refl)) (and-then ! (load ! (from ! (stop !)) (look ! 23 refl)) (and-then ! (load ! (from ! (stop !)) (look ! 21 refl)) (and-then ! (load ! (from ! (stop !)) (look ! 19 refl)) (and-then ! (load ! (from ! (stop !)) (look ! 13 refl)) (no-more !)))))) (λ w.
-        use1 W (later (some (λ (e : Ended). ((‵ (flft (α ∷ []) fullShare) ⊛ ‵ ftrue) ⊛ ‵ (En.the-row .own e (w ∷ []))) ⊛ raw (ensured 𝓤 H A write.ended (write.clauses 𝓤 H A at-mem run) (α ∷ [], tt) (to-write h l8 γ) tt e)))) (id⊢ 𝓤 _) $ await ! tt $ pick ! (λ e.
+        use1 W (later (some (λ (e : Ended). ((‵ (flft (α ∷ []) fullShare) ⊛ ‵ ftrue) ⊛ ‵ (En.the-row .own e (w ∷ []))) ⊛ raw (ensured 𝓤 H A write.ended (write.clauses 𝓤 H A at-mem run) (α ∷ [], tt) (to-write h l8 γ) tt e)))) (id⊢ 𝓤 _) $
+        await ! tt $ pick ! (λ e.
         split ! $ move ! (1 ∷ []) $ use1 W (some (λ (zs : WriteEnds). ‵ (lasts write.ended (α ∷ [], tt) (to-write h l8 γ) zs) ⊛ raw (fact 𝓤 (Told-w e zs)))) (id⊢ 𝓤 _) $ pick ! (λ zs.
         split ! $ move ! (1 ∷ []) $ heard ! (Told-w e zs) (λ wrote. fsplit ! $ move ! (2 ∷ []) $ split ! $ split ! $
         -- [0 the token; 1 true; 2 what the answer owns; 3 the last value; 4 true; 5 the lender's part; 6 _13; 8 _12; 10 _11; 12 _10; 14 _9; …]
         move ! (2 ∷ []) $ peeks ! En.the-row (Is En.the-row) (shows 𝓤 H A En.the-row) e (w ∷ []) (λ e-is. land ! (from ! (stop !)) (init ! 14 refl (ty-E e w e-is)) $ drop ! $
         -- the lifetime ends, and the local is back
-        lft-end ! tt $ move ! (0 ∷ 4 ∷ 2 ∷ []) $ use3 W (later (‵ (mem T.the-row .lies (zs .0) l8 0))) (ref-back 𝓤 H A W T.the-row (α ∷ []) γ (zs .0) l8 0) $ await ! tt $ move ! (1 ∷ []) $ drop ! $ move ! (1 ∷ []) $ drop ! $
+        lft-end ! tt $ move ! (0 ∷ 4 ∷ 2 ∷ []) $ use3 W (later (‵ (mem T.the-row .lies (zs .0) l8 0))) (ref-back 𝓤 H A W T.the-row (α ∷ []) γ (zs .0) l8 0) $ await ! tt $ move ! (1 ∷ []) $
+        drop ! $ move ! (1 ∷ []) $ drop ! $
         laid ! T.the-row (zs .0) l8 0 (λ us. move ! (1 ∷ []) $ peeks ! T.the-row Single (singles 𝓤 H A) (zs .0) us (λ p. drop ! $
-        rewrite ! 0 (λ (ws : List Val). ‵ (cellAt fullShare (T.the-row .mir) ws l8 0)) (p .1) refl $ rewrite ! 0 (λ (ts : List Ty). ‵ (cellAt fullShare ts (p .0 ∷ []) l8 0)) mir-is refl $ use1 W (‵ (fat fullShare τP l8 0 (p .0))) (W .laws .raw-at fullShare τP l8 0 (p .0)) $
+        rewrite ! 0 (λ (ws : List Val). ‵ (cellAt fullShare (T.the-row .mir) ws l8 0)) (p .1) refl $ rewrite ! 0 (λ (ts : List Ty). ‵ (cellAt fullShare ts (p .0 ∷ []) l8 0)) mir-is refl $
+        use1 W (‵ (fat fullShare τP l8 0 (p .0))) (W .laws .raw-at fullShare τP l8 0 (p .0)) $
         -- [0 _8; 1 _13; 3 _12; 5 _11; 7 _10; 9 _9; 11 what frees _8; 12 _7; 14 _6; 16 _5; 18 _4; 20 _3; 22 _2; 24 _1; 26 room for _0; …]
         assigns ! (addr ! (from ! (stop !))) (from ! (stop !)) (init ! 3 refl (tt, tt)) $
         -- the local is lent again
-        owned ! T.the-row (Is T.the-row) (LL.makes T.the-type T′.the-plain 𝓤 H A) (zs .0) _ (p .2) $ move ! (1 ∷ 0 ∷ []) $ use2 W (‵ (mem T.the-row .lies (zs .0) l8 0)) (lie 𝓤 H A W τP mir-is (zs .0) (p .0) l8) $
-        lft-new ! tt (λ β. move ! (1 ∷ []) $ use1 W (later (some (λ (δ : GName). ‵ (ref-own (zs .0) β l8 δ) ⊛ ‵ (flent (β ∷ []) (Body (mem T.the-row) l8 0 δ))))) (lends-ref 𝓤 H A W T.the-row (named 0) (β ∷ []) (zs .0) l8 0) $ await ! tt $ pick ! (λ δ. split ! $
+        owned ! T.the-row (Is T.the-row) (LL.makes T.the-type T′.the-plain 𝓤 H A) (zs .0) _ (p .2) $ move ! (1 ∷ 0 ∷ []) $
+        use2 W (‵ (mem T.the-row .lies (zs .0) l8 0)) (lie 𝓤 H A W τP mir-is (zs .0) (p .0) l8) $
+        lft-new ! tt (λ β. move ! (1 ∷ []) $
+        use1 W (later (some (λ (δ : GName). ‵ (ref-own (zs .0) β l8 δ) ⊛ ‵ (flent (β ∷ []) (Body (mem T.the-row) l8 0 δ))))) (lends-ref 𝓤 H A W T.the-row (named 0) (β ∷ []) (zs .0) l8 0) $
+        await ! tt $ pick ! (λ δ. split ! $
         move ! (2 ∷ 0 ∷ []) $ use2 W (raw (Read 𝓤 H A at-mem run .pre (bind-read (zs .0) β l8 δ))) (goes-read (zs .0) β l8 δ) $
         -- the read: the layout is that of the write
         calls-at ! fm (Read 𝓤 H A at-mem run) known-r (bind-read (zs .0) β l8 δ) (and-then ! (load ! (from ! (stop !)) (look ! 4 refl)) (and-then ! (load ! (from ! (stop !)) (look ! 17 refl)) (and-then ! (load ! (from ! (stop !)) (look ! 15 refl)) (and-then ! (load ! (from ! (stop !)) (look ! 13 refl)) (no-more !))))) (λ v.
-        use1 W (later (some (λ (a : Byte). ((‵ (flft (β ∷ []) fullShare) ⊛ ‵ ftrue) ⊛ ‵ (By.the-row .own a (v ∷ []))) ⊛ raw (ensured 𝓤 H A read.ended (read.clauses 𝓤 H A at-mem run) (β ∷ [], tt) (to-read (zs .0) l8 δ) tt a)))) (id⊢ 𝓤 _) $ await ! tt $ pick ! (λ a.
+        use1 W (later (some (λ (a : Byte). ((‵ (flft (β ∷ []) fullShare) ⊛ ‵ ftrue) ⊛ ‵ (By.the-row .own a (v ∷ []))) ⊛ raw (ensured 𝓤 H A read.ended (read.clauses 𝓤 H A at-mem run) (β ∷ [], tt) (to-read (zs .0) l8 δ) tt a)))) (id⊢ 𝓤 _) $
+        await ! tt $ pick ! (λ a.
         split ! $ move ! (1 ∷ []) $ use1 W (some (λ (ys : ReadEnds). ‵ (lasts read.ended (β ∷ [], tt) (to-read (zs .0) l8 δ) ys) ⊛ raw (fact 𝓤 (Told-r (zs .0) a ys)))) (id⊢ 𝓤 _) $ pick ! (λ ys.
         split ! $ move ! (1 ∷ []) $ heard ! (Told-r (zs .0) a ys) (λ was. fsplit ! $ move ! (2 ∷ []) $ split ! $ split ! $
         move ! (2 ∷ []) $ peeks ! By.the-row (Is By.the-row) (shows 𝓤 H A By.the-row) a (v ∷ []) (λ a-is. land ! (from ! (stop !)) (init ! 12 refl (ty-B a v a-is)) $ drop ! $
-        lft-end ! tt $ move ! (0 ∷ 4 ∷ 2 ∷ []) $ use3 W (later (‵ (mem T.the-row .lies (ys .0) l8 0))) (ref-back 𝓤 H A W T.the-row (β ∷ []) δ (ys .0) l8 0) $ await ! tt $ move ! (1 ∷ []) $ drop ! $ move ! (1 ∷ []) $ drop ! $
+        lft-end ! tt $ move ! (0 ∷ 4 ∷ 2 ∷ []) $ use3 W (later (‵ (mem T.the-row .lies (ys .0) l8 0))) (ref-back 𝓤 H A W T.the-row (β ∷ []) δ (ys .0) l8 0) $ await ! tt $ move ! (1 ∷ []) $
+        drop ! $ move ! (1 ∷ []) $ drop ! $
         laid ! T.the-row (ys .0) l8 0 (λ us. move ! (1 ∷ []) $ peeks ! T.the-row Single (singles 𝓤 H A) (ys .0) us (λ n. drop ! $
-        rewrite ! 0 (λ (ws : List Val). ‵ (cellAt fullShare (T.the-row .mir) ws l8 0)) (n .1) refl $ rewrite ! 0 (λ (ts : List Ty). ‵ (cellAt fullShare ts (n .0 ∷ []) l8 0)) mir-is refl $ use1 W (‵ (fat fullShare τP l8 0 (n .0))) (W .laws .raw-at fullShare τP l8 0 (n .0)) $
+        rewrite ! 0 (λ (ws : List Val). ‵ (cellAt fullShare (T.the-row .mir) ws l8 0)) (n .1) refl $ rewrite ! 0 (λ (ts : List Ty). ‵ (cellAt fullShare ts (n .0 ∷ []) l8 0)) mir-is refl $
+        use1 W (‵ (fat fullShare τP l8 0 (n .0))) (W .laws .raw-at fullShare τP l8 0 (n .0)) $
         -- [0 _8; 1 _13; 3 _12; 5 _11; 7 _10; 9 _9; 11 what frees _8; 12 _7; 14 _6; 16 _5; 18 _4; 20 _3; 22 _2; 24 _1; 26 room for _0; …]
         assigns ! (of-opd ! (load ! (from ! (stop !)) (look ! 0 refl))) (from ! (stop !)) (init ! 1 refl (ty-P (ys .0) (n .0) (n .2))) $
         assigns ! (agg ! (and-then ! (load ! (from ! (stop !)) (look ! 9 refl)) (and-then ! (load ! (from ! (stop !)) (look ! 7 refl)) (and-then ! (load ! (from ! (stop !)) (look ! 1 refl)) (no-more !))))) (from ! (stop !))
         (init ! 26 refl (ty-S (record { ended = e; answer = a; state = ys .0 }) (vstruct (vcons w (vcons v (vcons (n .0) vnil)))) ((w ∷ [], (v ∷ [], (n .0 ∷ [], tt))), (refl, (e-is, (a-is, (n .2, tt))))))) $
-        returns ! (look ! 26 refl) $ forget ! 0 refl $ forget ! 1 refl $ forget ! 3 refl $ forget ! 5 refl $ forget ! 7 refl $ forget ! 9 refl $ forget ! 12 refl $ forget ! 14 refl $ forget ! 16 refl $ forget ! 18 refl $ forget ! 20 refl $ forget ! 22 refl $ forget ! 24 refl $ forget ! 26 refl $
-        move ! (26 ∷ 27 ∷ []) $ free1 ! $ move ! (24 ∷ 25 ∷ []) $ free1 ! $ move ! (22 ∷ 23 ∷ []) $ free1 ! $ move ! (20 ∷ 21 ∷ []) $ free1 ! $ move ! (18 ∷ 19 ∷ []) $ free1 ! $ move ! (16 ∷ 17 ∷ []) $ free1 ! $ move ! (14 ∷ 15 ∷ []) $ free1 ! $ move ! (12 ∷ 13 ∷ []) $ free1 ! $
-        move ! (0 ∷ 11 ∷ []) $ free1 ! $ move ! (8 ∷ 9 ∷ []) $ free1 ! $ move ! (6 ∷ 7 ∷ []) $ free1 ! $ move ! (4 ∷ 5 ∷ []) $ free1 ! $ move ! (2 ∷ 3 ∷ []) $ free1 ! $ move ! (0 ∷ 1 ∷ []) $ free1 ! $ free0 ! $
-        keep ! (0 ∷ []) $ by ! (exits (record { ended = e; answer = a; state = ys .0 }) (vstruct (vcons w (vcons v (vcons (n .0) vnil)))) (made h x1 x2 x3 x4 x5 x6 e (zs .0) a (ys .0) wrote was) ((w ∷ [], (v ∷ [], (n .0 ∷ [], tt))), (refl, (e-is, (a-is, (n .2, tt))))))))))))))))))))))))))))))))))))))
+        returns ! (look ! 26 refl) $ forget ! 0 refl $ forget ! 1 refl $ forget ! 3 refl $ forget ! 5 refl $ forget ! 7 refl $ forget ! 9 refl $ forget ! 12 refl $ forget ! 14 refl $
+        forget ! 16 refl $ forget ! 18 refl $ forget ! 20 refl $ forget ! 22 refl $ forget ! 24 refl $ forget ! 26 refl $
+        move ! (26 ∷ 27 ∷ []) $ free1 ! $ move ! (24 ∷ 25 ∷ []) $ free1 ! $ move ! (22 ∷ 23 ∷ []) $ free1 ! $ move ! (20 ∷ 21 ∷ []) $ free1 ! $ move ! (18 ∷ 19 ∷ []) $ free1 ! $
+        move ! (16 ∷ 17 ∷ []) $ free1 ! $ move ! (14 ∷ 15 ∷ []) $ free1 ! $ move ! (12 ∷ 13 ∷ []) $ free1 ! $
+        move ! (0 ∷ 11 ∷ []) $ free1 ! $ move ! (8 ∷ 9 ∷ []) $ free1 ! $ move ! (6 ∷ 7 ∷ []) $ free1 ! $ move ! (4 ∷ 5 ∷ []) $ free1 ! $ move ! (2 ∷ 3 ∷ []) $ free1 ! $ move ! (0 ∷ 1 ∷ []) $
+        free1 ! $ free0 ! $
+        keep ! (0 ∷ []) $
+        by ! (exits (record { ended = e; answer = a; state = ys .0 }) (vstruct (vcons w (vcons v (vcons (n .0) vnil)))) (made h x1 x2 x3 x4 x5 x6 e (zs .0) a (ys .0) wrote was) ((w ∷ [], (v ∷ [], (n .0 ∷ [], tt))), (refl, (e-is, (a-is, (n .2, tt))))))))))))))))))))))))))))))))))))))
 
 module _ {M : Type 1} (𝓤 : URA M) (H : Heap 𝓤) (A : Atoms 𝓤) (W : Given 𝓤 H A) (at-mem : Memory → SProp 𝓤) (run : Routine → Fun 𝓤) where
   me-walks : (C : Calls 𝓤 H) (Λ : Loops 𝓤 H) → FmC 𝓤 H (W .laws) C → Triple 𝓤 (C #write) (Write 𝓤 H A at-mem run) → Triple 𝓤 (C #read) (Read 𝓤 H A at-mem run) → Walks 𝓤 H A me.ended stayed (WpFn 𝓤 H C Λ code.function) (me.clauses 𝓤 H A at-mem run)
