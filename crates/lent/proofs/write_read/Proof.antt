@@ -11,20 +11,20 @@ use mir.Syntax.{Ty, tyInt, tyRef, erased, named, mut, Fn, local, valueLocal, mem
 use mir.Raw.{raw as rawTy}
 use mir.Val.{Val, hasTy, WT, vptr, vint, vstruct, vcons, vnil}
 use base.Logic.{SProp, ent, sep, emp, via, fst∗, id⊢}
-use base.Fml.{GName, Fml, fsep, ftrue, flft, flent, fat}
+use base.Fml.{GName, Fml, fsep, ftrue, flft, flent, fat, fres}
 use prog.Memory.{Memory}
 use prog.Routine.{Routine}
 use prog.Wp.{Heap, Calls, Loops, WpFn, Tables}
 use ghost.Atoms.{Atoms, sem}
 use contract.Monad.{Fun, fact}
 use contract.Running.{givenOf, tables, tablesOf}
-use types.Kit.{Goal, Given, Item, Seq, ‵, raw, _⊛_, some, later, _$_, _∵_, !, qed, by, move, keep, drop, use1, use2, use3, split, join, pick, rewrite, fsplit, fjoin, fpick, fpack, suffices, frame, await, done}
+use types.Kit.{Goal, Soaks, Given, Item, Seq, ‵, raw, _⊛_, some, later, _$_, _∵_, !, qed, by, move, keep, drop, use1, use2, use3, split, join, pick, rewrite, fsplit, fjoin, fpick, fpack, suffices, frame, await, done}
 use types.Tokens.{lft-new, lft-end}
 use types.Run.{look, init, forget, stop, from, load, addr, and-then, no-more, of-opd, assigns, land, returns, enter, alloc1, alloc0, params1, pass1, pass0, free1, free0}
 use types.Part.{agg}
 use types.SemTy.{Body}
 use sound.WpLaws.{FmC, fmOf, WpFn-mono}
-use denote.RattleType.{RattleType, owns}
+use denote.RattleType.{owns}
 use denote.Laws.{Is, shows}
 use denote.Memory.{mem, cellAt, partOf, pointee}
 use denote.Plain.{uint-vals, uint-tells, uint-lawful}
@@ -114,11 +114,12 @@ local-fn named-P τP τS τE τB τT τK = record {
 typed-S : {M : Type 1} (𝓤 : URA M) (H : Heap 𝓤) (A : Atoms 𝓤) (W : Given 𝓤 H A) (x : Both) (v : Val) → Is St.the-row x (v ∷ []) → Holds (hasTy type-S v) × WT v
 typed-S 𝓤 H A W x v is = LL.lawful St.the-type St′.the-laws 𝓤 H A W .typed x (v ∷ []) is .0
 
--- what lies in memory, taken apart
-module _ {M : Type 1} {𝓤 : URA M} {H : Heap 𝓤} {A : Atoms 𝓤} {K : Type 0} {W : Given 𝓤 H A} {Γ : List (Item 𝓤)} {G : Goal 𝓤 H} where
-  laid : K → (R : RattleType) (h : R .Denot) (b o : ℕ) → ((vs : List Val) → Seq K W (‵ (cellAt fullShare (R .mir) vs b o) ∷ ‵ (R .own h vs) ∷ Γ) G) → Seq K W (‵ (mem R .lies h b o) ∷ Γ) G
-  unfolding partOf
-  laid t R h b o k = fpick t (λ vs. fsplit t $ k vs)
+-- a reference to the local at l while it holds s, and what it owns in the lifetime α
+abbrev ref : Iic → ℕ → GName → RefT Iic
+ref s l γ = record { ptr = (l, 0); name = γ; now = s }
+
+abbrev ref-own : Iic → ℕ → ℕ → GName → Fml
+ref-own s α l γ = MutRef (named 0) (α ∷ []) T.the-row .own (ref s l γ) (vptr l 0 ∷ [])
 
 module _ {M : Type 1} (𝓤 : URA M) (H : Heap 𝓤) (A : Atoms 𝓤) (W : Given 𝓤 H A) where
   -- a local's cell, with what the value owns, is what lies in memory
@@ -128,6 +129,26 @@ module _ {M : Type 1} (𝓤 : URA M) (H : Heap 𝓤) (A : Atoms 𝓤) (W : Given
       qed W (‵ (fat fullShare τP l 0 u) ∷ ‵ (T.the-row .own h (u ∷ [])) ∷ []) ∵ use1 W (‵ (fat fullShare (rawTy τP) l 0 u)) (W .laws .at-raw fullShare τP l 0 u) $
       rewrite ! 0 (λ (ts : List Ty). ‵ (cellAt fullShare ts (u ∷ []) l 0)) (sym mir-is) refl $ fjoin ! $
       fpack ! (List Val) (λ us. fsep (cellAt fullShare (T.the-row .mir) us l 0) (T.the-row .own h us)) (u ∷ []) $ done !
+
+module _ {M : Type 1} {𝓤 : URA M} {H : Heap 𝓤} {A : Atoms 𝓤} {K : Type 0} {W : Given 𝓤 H A} {Γ : List (Item 𝓤)} {G : Goal 𝓤 H} where
+  -- a local is lent for a new lifetime
+  lend : K → Soaks G → (τP : Ty) → T.the-row .mir ≡ τP ∷ [] → (s : Iic) (v : Val) → Is T.the-row s (v ∷ []) → (l : ℕ)
+      → ((α : ℕ) (γ : GName) → Seq K W (‵ (flft (α ∷ []) fullShare) ∷ ‵ (ref-own s α l γ) ∷ ‵ (flent (α ∷ []) (Body (mem T.the-row) l 0 γ)) ∷ Γ) G)
+      → Seq K W (‵ (fat fullShare τP l 0 v) ∷ Γ) G
+  lend t z τP mir-is s v is l k =
+      owned t T.the-row (Is T.the-row) (LL.makes T.the-type T′.the-plain 𝓤 H A) s (v ∷ []) is $ move t (1 ∷ 0 ∷ []) $ use2 W (‵ (mem T.the-row .lies s l 0)) (lie 𝓤 H A W τP mir-is s v l) $
+      lft-new t z (λ α. move t (1 ∷ []) $ use1 W (later (some (λ (γ : GName). ‵ (ref-own s α l γ) ⊛ ‵ (flent (α ∷ []) (Body (mem T.the-row) l 0 γ)))))
+      (lends-ref 𝓤 H A W T.the-row (named 0) (α ∷ []) s l 0) $ await t z $ pick t (λ γ. split t $ move t (2 ∷ 0 ∷ []) $ k α γ))
+
+  -- the lifetime ends, and the local is back at the last value
+  back : K → Soaks G → (τP : Ty) → T.the-row .mir ≡ τP ∷ [] → (s : Iic) (α l : ℕ) (γ : GName) → ((v : Val) → Is T.the-row s (v ∷ []) → Seq K W (‵ (fat fullShare τP l 0 v) ∷ Γ) G)
+      → Seq K W (‵ (flft (α ∷ []) fullShare) ∷ ‵ (flent (α ∷ []) (Body (mem T.the-row) l 0 γ)) ∷ ‵ (fres γ (T.the-row .coded .code s)) ∷ Γ) G
+  unfolding partOf
+  back t z τP mir-is s α l γ k =
+      lft-end t z $ use3 W (later (‵ (mem T.the-row .lies s l 0))) (ref-back 𝓤 H A W T.the-row (α ∷ []) γ s l 0) $ await t z $
+      fpick t (λ vs. fsplit t $ move t (1 ∷ []) $ peeks t T.the-row Single (singles 𝓤 H A) s vs (λ p. drop t $
+      rewrite t 0 (λ (ws : List Val). ‵ (cellAt fullShare (T.the-row .mir) ws l 0)) (p .1) refl $ rewrite t 0 (λ (ts : List Ty). ‵ (cellAt fullShare ts (p .0 ∷ []) l 0)) mir-is refl $
+      use1 W (‵ (fat fullShare τP l 0 (p .0))) (W .laws .raw-at fullShare τP l 0 (p .0)) $ k (p .0) (p .2)))
 
 module _ {M : Type 1} (𝓤 : URA M) (H : Heap 𝓤) (A : Atoms 𝓤) (at-mem : Memory → SProp 𝓤) (run : Routine → Fun 𝓤) where
   -- the callees' contracts
@@ -178,13 +199,7 @@ module _ {M : Type 1} (𝓤 : URA M) (H : Heap 𝓤) (A : Atoms 𝓤) (W : Given
       owned ! St.the-row (Is St.the-row) (LL.makes St.the-type St′.the-plain 𝓤 H A) r _ is $ nothing ! $ own-clocks ! x6 v6 x6-is $ own-time ! x5 v5 x5-is $ own-u16 ! x4 v4 x4-is $
       own-time ! x3 v3 x3-is $ own-u8 ! x2 v2 x2-is $ own-u16 ! x1 v1 x1-is $ own-P ! h u h-is $ nothing ! $ keep ! (0 ∷ 1 ∷ 2 ∷ []) $ done !
 
-  -- a reference to the local at l while it holds s, what a callee's triple binds outside, and that the caller has what it asks
-  abbrev ref : Iic → ℕ → GName → RefT Iic
-  ref s l γ = record { ptr = (l, 0); name = γ; now = s }
-
-  abbrev ref-own : Iic → ℕ → ℕ → GName → Fml
-  ref-own s α l γ = MutRef (named 0) (α ∷ []) T.the-row .own (ref s l γ) (vptr l 0 ∷ [])
-
+  -- what a callee's triple binds outside, and that the caller has what it asks
   abbrev WriteArg : Type 0
   WriteArg = RefT Iic × (ℕ × (ℕ × (Time × (Clocks × Unit {0}))))
 
@@ -245,51 +260,32 @@ module _ {M : Type 1} (𝓤 : URA M) (H : Heap 𝓤) (A : Atoms 𝓤) (W : Given
         -- [0 _13; 2 _12; 4 _11; 6 _10; 8 _9; 10 _8; 12 _7; 14 _6; 16 _5; 18 _4; 20 _3; 22 _2; 24 _1; 26 room for _0; …]
         assigns ! (of-opd ! (load ! (from ! (stop !)) (look ! 24 refl))) (from ! (stop !)) (init ! 10 refl (ty-P h u h-is)) $
         assigns ! (addr ! (from ! (stop !))) (from ! (stop !)) (init ! 4 refl (tt, tt)) $
-        -- the local is lent
-        owned ! T.the-row (Is T.the-row) (LL.makes T.the-type T′.the-plain 𝓤 H A) h _ h-is $ move ! (11 ∷ 0 ∷ []) $ use2 W (‵ (mem T.the-row .lies h l8 0)) (lie 𝓤 H A W τP mir-is h u l8) $
-        lft-new ! tt (λ α. move ! (1 ∷ []) $
-        use1 W (later (some (λ (γ : GName). ‵ (ref-own h α l8 γ) ⊛ ‵ (flent (α ∷ []) (Body (mem T.the-row) l8 0 γ))))) (lends-ref 𝓤 H A W T.the-row (named 0) (α ∷ []) h l8 0) $ await ! tt $
-        pick ! (λ γ. split ! $
-        move ! (2 ∷ 0 ∷ []) $ use2 W (raw (Write 𝓤 H A at-mem run .pre (bind-write h α l8 γ))) (goes-write h α l8 γ) $
+        move ! (10 ∷ []) $ lend ! tt τP mir-is h u h-is l8 (λ α γ. use2 W (raw (Write 𝓤 H A at-mem run .pre (bind-write h α l8 γ))) (goes-write h α l8 γ) $
         -- the write: [0 what it asks; 1 the lender's part; 2 _13; 4 _12; 6 _11; 8 _10; 10 _9; 12 what frees _8; 13 _7; 15 _6; 17 _5; 19 _4; 21 _3; 23 _2; 25 _1; 27 room for _0; …]
-        calls-at ! fm (Write 𝓤 H A at-mem run) known-w (bind-write h α l8 γ) (and-then ! (load ! (from ! (stop !)) (look ! 6 refl)) (and-then ! (load ! (from ! (stop !)) (look ! 23 refl)) (and-then ! (load ! (from ! (stop !)) (look ! 21 refl)) (and-then ! (load ! (from ! (stop !)) (look ! 19 refl)) (and-then ! (load ! (from ! (stop !)) (look ! 13 refl)) (no-more !)))))) (λ w.
-        use1 W (later (some (λ (e : Ended). ((‵ (flft (α ∷ []) fullShare) ⊛ ‵ ftrue) ⊛ ‵ (En.the-row .own e (w ∷ []))) ⊛ raw (ensured 𝓤 H A write.ended (write.clauses 𝓤 H A at-mem run) (α ∷ [], tt) (to-write h l8 γ) tt e)))) (id⊢ 𝓤 _) $
-        await ! tt $ pick ! (λ e.
+        calls-at ! fm (Write 𝓤 H A at-mem run) known-w (bind-write h α l8 γ) (and-then ! (load ! (from ! (stop !)) (look ! 6 refl)) (and-then ! (load ! (from ! (stop !)) (look ! 23 refl))
+        (and-then ! (load ! (from ! (stop !)) (look ! 21 refl)) (and-then ! (load ! (from ! (stop !)) (look ! 19 refl)) (and-then ! (load ! (from ! (stop !)) (look ! 13 refl)) (no-more !)))))) (λ w.
+        use1 W (later (some (λ (e : Ended). ((‵ (flft (α ∷ []) fullShare) ⊛ ‵ ftrue) ⊛ ‵ (En.the-row .own e (w ∷ []))) ⊛
+        raw (ensured 𝓤 H A write.ended (write.clauses 𝓤 H A at-mem run) (α ∷ [], tt) (to-write h l8 γ) tt e)))) (id⊢ 𝓤 _) $ await ! tt $ pick ! (λ e.
         split ! $ move ! (1 ∷ []) $ use1 W (some (λ (zs : WriteEnds). ‵ (lasts write.ended (α ∷ [], tt) (to-write h l8 γ) zs) ⊛ raw (fact 𝓤 (Told-w e zs)))) (id⊢ 𝓤 _) $ pick ! (λ zs.
         split ! $ move ! (1 ∷ []) $ heard ! (Told-w e zs) (λ wrote. fsplit ! $ move ! (2 ∷ []) $ split ! $ split ! $
         -- [0 the token; 1 true; 2 what the answer owns; 3 the last value; 4 true; 5 the lender's part; 6 _13; 8 _12; 10 _11; 12 _10; 14 _9; …]
         move ! (2 ∷ []) $ peeks ! En.the-row (Is En.the-row) (shows 𝓤 H A En.the-row) e (w ∷ []) (λ e-is. land ! (from ! (stop !)) (init ! 14 refl (ty-E e w e-is)) $ drop ! $
-        -- the lifetime ends, and the local is back
-        lft-end ! tt $ move ! (0 ∷ 4 ∷ 2 ∷ []) $ use3 W (later (‵ (mem T.the-row .lies (zs .0) l8 0))) (ref-back 𝓤 H A W T.the-row (α ∷ []) γ (zs .0) l8 0) $ await ! tt $ move ! (1 ∷ []) $
-        drop ! $ move ! (1 ∷ []) $ drop ! $
-        laid ! T.the-row (zs .0) l8 0 (λ us. move ! (1 ∷ []) $ peeks ! T.the-row Single (singles 𝓤 H A) (zs .0) us (λ p. drop ! $
-        rewrite ! 0 (λ (ws : List Val). ‵ (cellAt fullShare (T.the-row .mir) ws l8 0)) (p .1) refl $ rewrite ! 0 (λ (ts : List Ty). ‵ (cellAt fullShare ts (p .0 ∷ []) l8 0)) mir-is refl $
-        use1 W (‵ (fat fullShare τP l8 0 (p .0))) (W .laws .raw-at fullShare τP l8 0 (p .0)) $
+        move ! (1 ∷ []) $ drop ! $ move ! (2 ∷ []) $ drop ! $ move ! (0 ∷ 2 ∷ 1 ∷ []) $ back ! tt τP mir-is (zs .0) α l8 γ (λ g g-is.
         -- [0 _8; 1 _13; 3 _12; 5 _11; 7 _10; 9 _9; 11 what frees _8; 12 _7; 14 _6; 16 _5; 18 _4; 20 _3; 22 _2; 24 _1; 26 room for _0; …]
         assigns ! (addr ! (from ! (stop !))) (from ! (stop !)) (init ! 3 refl (tt, tt)) $
-        -- the local is lent again
-        owned ! T.the-row (Is T.the-row) (LL.makes T.the-type T′.the-plain 𝓤 H A) (zs .0) _ (p .2) $ move ! (1 ∷ 0 ∷ []) $
-        use2 W (‵ (mem T.the-row .lies (zs .0) l8 0)) (lie 𝓤 H A W τP mir-is (zs .0) (p .0) l8) $
-        lft-new ! tt (λ β. move ! (1 ∷ []) $
-        use1 W (later (some (λ (δ : GName). ‵ (ref-own (zs .0) β l8 δ) ⊛ ‵ (flent (β ∷ []) (Body (mem T.the-row) l8 0 δ))))) (lends-ref 𝓤 H A W T.the-row (named 0) (β ∷ []) (zs .0) l8 0) $
-        await ! tt $ pick ! (λ δ. split ! $
-        move ! (2 ∷ 0 ∷ []) $ use2 W (raw (Read 𝓤 H A at-mem run .pre (bind-read (zs .0) β l8 δ))) (goes-read (zs .0) β l8 δ) $
-        -- the read: the layout is that of the write
-        calls-at ! fm (Read 𝓤 H A at-mem run) known-r (bind-read (zs .0) β l8 δ) (and-then ! (load ! (from ! (stop !)) (look ! 4 refl)) (and-then ! (load ! (from ! (stop !)) (look ! 17 refl)) (and-then ! (load ! (from ! (stop !)) (look ! 15 refl)) (and-then ! (load ! (from ! (stop !)) (look ! 13 refl)) (no-more !))))) (λ v.
-        use1 W (later (some (λ (a : Byte). ((‵ (flft (β ∷ []) fullShare) ⊛ ‵ ftrue) ⊛ ‵ (By.the-row .own a (v ∷ []))) ⊛ raw (ensured 𝓤 H A read.ended (read.clauses 𝓤 H A at-mem run) (β ∷ [], tt) (to-read (zs .0) l8 δ) tt a)))) (id⊢ 𝓤 _) $
-        await ! tt $ pick ! (λ a.
+        lend ! tt τP mir-is (zs .0) g g-is l8 (λ β δ. use2 W (raw (Read 𝓤 H A at-mem run .pre (bind-read (zs .0) β l8 δ))) (goes-read (zs .0) β l8 δ) $
+        -- the read, in the same places
+        calls-at ! fm (Read 𝓤 H A at-mem run) known-r (bind-read (zs .0) β l8 δ) (and-then ! (load ! (from ! (stop !)) (look ! 4 refl)) (and-then ! (load ! (from ! (stop !)) (look ! 17 refl))
+        (and-then ! (load ! (from ! (stop !)) (look ! 15 refl)) (and-then ! (load ! (from ! (stop !)) (look ! 13 refl)) (no-more !))))) (λ v.
+        use1 W (later (some (λ (a : Byte). ((‵ (flft (β ∷ []) fullShare) ⊛ ‵ ftrue) ⊛ ‵ (By.the-row .own a (v ∷ []))) ⊛
+        raw (ensured 𝓤 H A read.ended (read.clauses 𝓤 H A at-mem run) (β ∷ [], tt) (to-read (zs .0) l8 δ) tt a)))) (id⊢ 𝓤 _) $ await ! tt $ pick ! (λ a.
         split ! $ move ! (1 ∷ []) $ use1 W (some (λ (ys : ReadEnds). ‵ (lasts read.ended (β ∷ [], tt) (to-read (zs .0) l8 δ) ys) ⊛ raw (fact 𝓤 (Told-r (zs .0) a ys)))) (id⊢ 𝓤 _) $ pick ! (λ ys.
         split ! $ move ! (1 ∷ []) $ heard ! (Told-r (zs .0) a ys) (λ was. fsplit ! $ move ! (2 ∷ []) $ split ! $ split ! $
         move ! (2 ∷ []) $ peeks ! By.the-row (Is By.the-row) (shows 𝓤 H A By.the-row) a (v ∷ []) (λ a-is. land ! (from ! (stop !)) (init ! 12 refl (ty-B a v a-is)) $ drop ! $
-        lft-end ! tt $ move ! (0 ∷ 4 ∷ 2 ∷ []) $ use3 W (later (‵ (mem T.the-row .lies (ys .0) l8 0))) (ref-back 𝓤 H A W T.the-row (β ∷ []) δ (ys .0) l8 0) $ await ! tt $ move ! (1 ∷ []) $
-        drop ! $ move ! (1 ∷ []) $ drop ! $
-        laid ! T.the-row (ys .0) l8 0 (λ us. move ! (1 ∷ []) $ peeks ! T.the-row Single (singles 𝓤 H A) (ys .0) us (λ n. drop ! $
-        rewrite ! 0 (λ (ws : List Val). ‵ (cellAt fullShare (T.the-row .mir) ws l8 0)) (n .1) refl $ rewrite ! 0 (λ (ts : List Ty). ‵ (cellAt fullShare ts (n .0 ∷ []) l8 0)) mir-is refl $
-        use1 W (‵ (fat fullShare τP l8 0 (n .0))) (W .laws .raw-at fullShare τP l8 0 (n .0)) $
-        -- [0 _8; 1 _13; 3 _12; 5 _11; 7 _10; 9 _9; 11 what frees _8; 12 _7; 14 _6; 16 _5; 18 _4; 20 _3; 22 _2; 24 _1; 26 room for _0; …]
-        assigns ! (of-opd ! (load ! (from ! (stop !)) (look ! 0 refl))) (from ! (stop !)) (init ! 1 refl (ty-P (ys .0) (n .0) (n .2))) $
+        move ! (1 ∷ []) $ drop ! $ move ! (2 ∷ []) $ drop ! $ move ! (0 ∷ 2 ∷ 1 ∷ []) $ back ! tt τP mir-is (ys .0) β l8 δ (λ n n-is.
+        assigns ! (of-opd ! (load ! (from ! (stop !)) (look ! 0 refl))) (from ! (stop !)) (init ! 1 refl (ty-P (ys .0) n (n-is))) $
         assigns ! (agg ! (and-then ! (load ! (from ! (stop !)) (look ! 9 refl)) (and-then ! (load ! (from ! (stop !)) (look ! 7 refl)) (and-then ! (load ! (from ! (stop !)) (look ! 1 refl)) (no-more !))))) (from ! (stop !))
-        (init ! 26 refl (ty-S (record { ended = e; answer = a; state = ys .0 }) (vstruct (vcons w (vcons v (vcons (n .0) vnil)))) ((w ∷ [], (v ∷ [], (n .0 ∷ [], tt))), (refl, (e-is, (a-is, (n .2, tt))))))) $
+        (init ! 26 refl (ty-S (record { ended = e; answer = a; state = ys .0 }) (vstruct (vcons w (vcons v (vcons n vnil)))) ((w ∷ [], (v ∷ [], (n ∷ [], tt))), (refl, (e-is, (a-is, (n-is, tt))))))) $
         returns ! (look ! 26 refl) $ forget ! 0 refl $ forget ! 1 refl $ forget ! 3 refl $ forget ! 5 refl $ forget ! 7 refl $ forget ! 9 refl $ forget ! 12 refl $ forget ! 14 refl $
         forget ! 16 refl $ forget ! 18 refl $ forget ! 20 refl $ forget ! 22 refl $ forget ! 24 refl $ forget ! 26 refl $
         move ! (26 ∷ 27 ∷ []) $ free1 ! $ move ! (24 ∷ 25 ∷ []) $ free1 ! $ move ! (22 ∷ 23 ∷ []) $ free1 ! $ move ! (20 ∷ 21 ∷ []) $ free1 ! $ move ! (18 ∷ 19 ∷ []) $ free1 ! $
@@ -297,7 +293,7 @@ module _ {M : Type 1} (𝓤 : URA M) (H : Heap 𝓤) (A : Atoms 𝓤) (W : Given
         move ! (0 ∷ 11 ∷ []) $ free1 ! $ move ! (8 ∷ 9 ∷ []) $ free1 ! $ move ! (6 ∷ 7 ∷ []) $ free1 ! $ move ! (4 ∷ 5 ∷ []) $ free1 ! $ move ! (2 ∷ 3 ∷ []) $ free1 ! $ move ! (0 ∷ 1 ∷ []) $
         free1 ! $ free0 ! $
         keep ! (0 ∷ []) $
-        by ! (exits (record { ended = e; answer = a; state = ys .0 }) (vstruct (vcons w (vcons v (vcons (n .0) vnil)))) (made h x1 x2 x3 x4 x5 x6 e (zs .0) a (ys .0) wrote was) ((w ∷ [], (v ∷ [], (n .0 ∷ [], tt))), (refl, (e-is, (a-is, (n .2, tt))))))))))))))))))))))))))))))))))))))
+        by ! (exits (record { ended = e; answer = a; state = ys .0 }) (vstruct (vcons w (vcons v (vcons n vnil)))) (made h x1 x2 x3 x4 x5 x6 e (zs .0) a (ys .0) wrote was) ((w ∷ [], (v ∷ [], (n ∷ [], tt))), (refl, (e-is, (a-is, (n-is, tt))))))))))))))))))))))))))))))))))
 
 module _ {M : Type 1} (𝓤 : URA M) (H : Heap 𝓤) (A : Atoms 𝓤) (W : Given 𝓤 H A) (at-mem : Memory → SProp 𝓤) (run : Routine → Fun 𝓤) where
   me-walks : (C : Calls 𝓤 H) (Λ : Loops 𝓤 H) → FmC 𝓤 H (W .laws) C → Triple 𝓤 (C #write) (Write 𝓤 H A at-mem run) → Triple 𝓤 (C #read) (Read 𝓤 H A at-mem run) → Walks 𝓤 H A me.ended stayed (WpFn 𝓤 H C Λ code.function) (me.clauses 𝓤 H A at-mem run)
