@@ -8,6 +8,7 @@ use clocks::Clocks;
 use clocks::Frequencies;
 use iic::Byte;
 use iic::Ended;
+use iic::Hold;
 use iic::Iic;
 use iic::Pins;
 use same::same_bytes;
@@ -196,11 +197,49 @@ fn refused_first(k: Clocks) {
     finish(step(started(s), 0, 0x80, 1, 4, k));
 }
 
+// The default with SCL held low.
+fn held(hold: Hold) -> Iic {
+    let s = Iic::new();
+    let registers = s.registers;
+    let lines = s.lines;
+    let flags = s.flags;
+    let frame = s.frame;
+    let condition = s.condition;
+    let command = s.command;
+    let eighth_fall = s.eighth_fall;
+    let filter_wait = s.filter_wait;
+    let clock_wait = s.clock_wait;
+    let monitor_wait = s.monitor_wait;
+    let setup_wait = s.setup_wait;
+    Iic {
+        registers,
+        lines,
+        flags,
+        frame,
+        condition,
+        command,
+        hold,
+        eighth_fall,
+        filter_wait,
+        clock_wait,
+        monitor_wait,
+        setup_wait,
+    }
+}
+
+// A write of ICDRT, then a read of ICDRR, that would release SCL past the last time: refused 7 once, since the hold is gone.
+fn refused_once(k: Clocks) {
+    let t = last_time();
+    finish(pair(started(held(Hold::Transmit)), 6, 0x55, t, 7, t, k));
+    finish(pair(started(held(Hold::Receive)), 3, 0x00, t, 7, t, k));
+}
+
 fn main() {
     let k = clock_set();
     status(k);
     registers(k);
     trace(k);
     refused_late(k);
+    refused_once(k);
     refused_first(k);
 }
