@@ -1,0 +1,136 @@
+// Plays the trace on standard input and writes its answer lines to standard output as they come, in two buffers of 64 KiB, whatever the
+// length of the trace or of a line.
+ghost use Prim.Native.Nat.{_+_, _≤_};
+ghost use lib.ListN.{length};
+use player::Player;
+
+// The bytes of the part that were played, the player after them, and whether all that they gave was written.
+struct Played {
+    pub used: usize,
+    pub fine: bool,
+    pub player: Player,
+}
+
+// Whether more is to be read, the bytes held of a line that was begun, and the player.
+struct Turn {
+    pub more: bool,
+    pub have: usize,
+    pub player: Player,
+}
+
+fn complain(text: &[u8]) {
+    io::write_all(2, text);
+}
+
+// Plays what the output has room for and writes it.
+fn play_some(player: Player, part: &[u8], ended: bool, output: &mut [u8]) -> Played
+    ensures { λ r. ⌜ r .used ≤ length (now (part .entry)) ⌝ }
+{
+    let p = player.play_lines(part, ended, output);
+    let written = p.written;
+    let fine = io::write_all(1, &output[0..written]);
+    let next = p.player;
+    Played {
+        used: p.used,
+        fine,
+        player: next,
+    }
+}
+
+// Plays the whole lines of a part, the output emptied as often as it is full.
+fn play_part(player: Player, part: &[u8], ended: bool, output: &mut [u8]) -> Played
+    ensures { λ r. ⌜ r .used ≤ length (now (part .entry)) ⌝ }
+{
+    let mut used = 0usize;
+    let mut last = player;
+    while used < part.len() {
+        let p = play_some(last, &part[used..], ended, output);
+        let next = p.player;
+        last = next;
+        used += p.used;
+        if !p.fine {
+            complain(b"play: standard output can't be written\n");
+            return Played {
+                used,
+                fine: false,
+                player: last,
+            };
+        }
+        if p.used == 0 {
+            break;
+        }
+    }
+    Played {
+        used,
+        fine: true,
+        player: last,
+    }
+}
+
+// The bytes of a line that was begun move to the front, at most 65 of them: more make it no more malformed.
+fn keep(input: &mut [u8], from: usize, n: usize) -> usize
+    requires { ⌜ n ≤ length (now input) ⌝ }
+    ensures { λ r. ⌜ r ≤ 65 ⌝ }
+{
+    let mut i = 0usize;
+    let mut at = from;
+    while at < n {
+        if i == 65 {
+            break;
+        }
+        input[i] = input[at];
+        i += 1;
+        at += 1;
+    }
+    i
+}
+
+// One read, after the bytes that are held, and its lines.
+fn turn(player: Player, input: &mut [u8], have: usize, output: &mut [u8]) -> Turn
+    requires { ⌜ have ≤ length (now input) ⌝ }
+    ensures { λ r. ⌜ r .have ≤ 65 ⌝ }
+{
+    let got = libc::read(0, &mut input[have..]);
+    if got < 0 {
+        complain(b"play: standard input can't be read\n");
+        return Turn {
+            more: false,
+            have: 0,
+            player,
+        };
+    }
+    let n = have + io::count(got, &input[have..]);
+    let ended = n == have;
+    let p = play_part(player, &input[0..n], ended, output);
+    let next = p.player;
+    let kept = keep(input, p.used, n);
+    Turn {
+        more: p.fine & !ended & (next.lines < 1000000),
+        have: kept,
+        player: next,
+    }
+}
+
+fn run(input: &mut [u8], output: &mut [u8])
+    requires { ⌜ 65 ≤ length (now input) ⌝ }
+{
+    let mut player = Player::new();
+    let mut have = 0usize;
+    let mut turns = u64::MAX;
+    while 0 < turns {
+        turns -= 1;
+        let t = turn(player, input, have, output);
+        if !t.more {
+            return;
+        }
+        let next = t.player;
+        player = next;
+        have = t.have;
+    }
+}
+
+fn main() {
+    let mut input = io::large_buffer();
+    let mut output = io::large_buffer();
+    run(&mut input, &mut output);
+}

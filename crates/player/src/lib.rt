@@ -1,0 +1,182 @@
+// Plays traces over the peripheral (document 01, "The trace player"): a line a call in, a line an answer out.
+ghost use mathlib.Core.Path.{_≡_};
+ghost use mathlib.Core.List.{_++_};
+ghost use lib.ListN.{length, drop};
+ghost use Rattle.player.specs.Lines.{linesIn};
+ghost use Rattle.player.specs.Trace.{traceClocks, freshPlayer, linesLeft, run, runOf, over, progressOf, summaryOf};
+
+pub mod answers;
+pub mod calls;
+pub mod lines;
+pub mod reading;
+pub mod text;
+
+use clocks::Clocks;
+use clocks::Frequencies;
+use iic::Iic;
+use lines::line_end;
+use lines::past;
+use time::Time;
+
+// A call of the peripheral, as a verb with its operands.
+pub enum Verb {
+    Read(u16),
+    Write(u16, u8),
+    Pins(bool, bool),
+    Gate(bool),
+    Visit,
+    Deadline,
+}
+
+pub struct Call {
+    pub time: Time,
+    pub verb: Verb,
+}
+
+// What a line says.
+pub enum Parsed {
+    Malformed,
+    Calls(Call),
+}
+
+// The time of the last line that wasn't refused 4 or 5.
+pub enum Last {
+    First,
+    After(Time),
+}
+
+// The peripheral under a trace.
+pub struct Host {
+    pub last: Last,
+    pub state: Iic,
+}
+
+// The value in an answer line.
+pub enum Value {
+    NoValue,
+    Byte(u8),
+    Bit(bool),
+    Moment(Time),
+}
+
+// How a call of the peripheral ended: its refusal or 0, its value and the next state.
+pub struct Outcome {
+    pub refusal: u8,
+    pub value: Value,
+    pub state: Iic,
+}
+
+// The same of a line.
+pub struct Answer {
+    pub refusal: u8,
+    pub value: Value,
+    pub host: Host,
+}
+
+// The lines played so far, and what they left.
+pub struct Player {
+    pub lines: u64,
+    pub host: Host,
+}
+
+// How far a part of a trace was played: its bytes used, the bytes written, 0 or 6, and the player after it.
+pub struct Progress {
+    pub used: usize,
+    pub written: usize,
+    pub refusal: u8,
+    pub player: Player,
+}
+
+// What a whole trace gives: bytes written, lines played, 0 or 6.
+pub struct Summary {
+    pub written: usize,
+    pub lines: u64,
+    pub refusal: u8,
+}
+
+// The clock set of a trace.
+pub fn trace_clocks() -> Clocks
+    ensures { λ r. ⌜ r ≡ traceClocks ⌝ }
+{
+    let start = Time {
+        seconds: 0,
+        fraction: 0,
+    };
+    Clocks::new(start, Frequencies::default()).clocks
+}
+
+impl Player {
+    // Before the first line.
+    pub fn new() -> Player
+        ensures { λ r. ⌜ r ≡ freshPlayer ⌝ }
+    {
+        Player {
+            lines: 0,
+            host: Host {
+                last: Last::First,
+                state: Iic::new(),
+            },
+        }
+    }
+
+    // Plays the lines of a part of a trace while 80 bytes are free. Where the trace goes on, a last line without its newline isn't played.
+    pub fn play_lines(self, part: &[u8], ended: bool, out: &mut [u8]) -> Progress
+        ensures { λ r. ⌜ (r ≡ progressOf (length (now (part .entry))) (run traceClocks self (linesLeft self (linesIn ended (now (part .entry)))) (length (now (out .entry))))) × (now (out .exit) ≡ over (run traceClocks self (linesLeft self (linesIn ended (now (part .entry)))) (length (now (out .entry)))) (now (out .entry))) ⌝ }
+    {
+        let clocks = trace_clocks();
+        let mut host = self.host;
+        let mut lines = self.lines;
+        let mut at = 0usize;
+        let mut written = 0usize;
+        while at < part.len() {
+            if 1000000 <= lines {
+                break;
+            }
+            let end = line_end(part, at);
+            let whole = ended | (end < part.len());
+            if !whole {
+                break;
+            }
+            if out.len() - written < 80 {
+                return Progress {
+                    used: at,
+                    written,
+                    refusal: 6,
+                    player: Player { lines, host },
+                };
+            }
+            let answer = host.answer(&part[at..end], clocks);
+            lines += 1;
+            written += answer.write(&mut out[written..], lines);
+            let next = answer.host;
+            host = next;
+            at = past(end, part.len());
+        }
+        Progress {
+            used: at,
+            written,
+            refusal: 0,
+            player: Player { lines, host },
+        }
+    }
+}
+
+// Plays a whole trace.
+pub fn play(trace: &[u8], out: &mut [u8]) -> Summary
+    ensures { λ r. ⌜ (r ≡ summaryOf (runOf (now (trace .entry)) (length (now (out .entry))))) × (now (out .exit) ≡ over (runOf (now (trace .entry)) (length (now (out .entry)))) (now (out .entry))) ⌝ }
+{
+    let done = Player::new().play_lines(trace, true, out);
+    Summary {
+        written: done.written,
+        lines: done.player.lines,
+        refusal: done.refusal,
+    }
+}
+
+// The same for a Rust host: the bytes written.
+#[no_mangle]
+pub extern "C" fn play_trace(trace: &[u8], out: &mut [u8]) -> usize
+    ensures { λ r. ⌜ (r ≡ summaryOf (runOf (now (trace .entry)) (length (now (out .entry)))) .written) × (now (out .exit) ≡ over (runOf (now (trace .entry)) (length (now (out .entry)))) (now (out .entry))) ⌝ }
+{
+    play(trace, out).written
+}

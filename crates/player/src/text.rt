@@ -1,0 +1,50 @@
+// Numbers as text, from a place of a lent buffer on: each function puts its bytes there and returns the next place.
+ghost use mathlib.Core.Path.{_≡_};
+ghost use mathlib.Core.List.{[], _∷_};
+ghost use Prim.Native.Nat.{_+_, _≤_, _<_};
+ghost use lib.ListN.{length};
+ghost use Rattle.player.specs.Numbers.{glyph, decimalIn, hexIn};
+ghost use Rattle.player.specs.Puts.{Put};
+
+// The digit of a number below 16.
+fn glyph_of(d: u64) -> u8
+    requires { ⌜ d < 16 ⌝ }
+    ensures { λ r. ⌜ r ≡ glyph d ⌝ }
+{
+    if d < 10 { 48 + d as u8 } else { 87 + d as u8 }
+}
+
+pub(crate) fn put_byte(out: &mut [u8], at: usize, b: u8) -> usize
+    requires { ⌜ at + 1 ≤ length (now out) ⌝ }
+    ensures { λ r. ⌜ Put (now (out .entry)) (now (out .exit)) at r (b ∷ []) ⌝ }
+{
+    out[at] = b;
+    at + 1
+}
+
+// At most k decimal digits of n, with no needless zero.
+pub(crate) fn put_decimal(out: &mut [u8], at: usize, n: u64, k: usize) -> usize
+    requires { ⌜ at + k ≤ length (now out) ⌝ }
+    ensures { λ r. ⌜ Put (now (out .entry)) (now (out .exit)) at r (decimalIn k n) ⌝ }
+{
+    if k == 0 {
+        return at;
+    }
+    if n < 10 {
+        return put_byte(out, at, glyph_of(n));
+    }
+    let next = put_decimal(out, at, n / 10, k - 1);
+    put_byte(out, next, glyph_of(n % 10))
+}
+
+// The last k hexadecimal digits of n.
+pub(crate) fn put_hex(out: &mut [u8], at: usize, n: u64, k: usize) -> usize
+    requires { ⌜ at + k ≤ length (now out) ⌝ }
+    ensures { λ r. ⌜ Put (now (out .entry)) (now (out .exit)) at r (hexIn k n) ⌝ }
+{
+    if k == 0 {
+        return at;
+    }
+    let next = put_hex(out, at, n / 16, k - 1);
+    put_byte(out, next, glyph_of(n % 16))
+}
