@@ -1,0 +1,3 @@
+pub mod Puts
+pub mod Scans
+pub mod Tails

@@ -1,0 +1,44 @@
+use borrow.Author.Needs.{needs}
+use Rattle.player.proofs.answers.put_levels.Statement.{statement}
+use Rattle.player.proofs.answers.put_levels.Tie as tie
+use Rattle.player.proofs.answers.put_levels.Reads as reads
+use Rattle.player.proofs.answers.put_levels.Lts as lts
+use Rattle.player.proofs.answers.put_pair.Reads as put-pair-reads
+use Rattle.player.proofs.text.put_byte.Reads as put-byte-reads
+
+enum-told : tie.Need-enum-told
+enum-told c = search needs
+
+put-byte-requires : tie.Need-put-byte-requires
+put-byte-requires c κs = search needs
+
+enum-known-pins : tie.Need-enum-known-pins
+enum-known-pins c = search needs
+
+put-pair-requires : tie.Need-put-pair-requires
+put-pair-requires c κs = search needs
+
+same-length : tie.Need-same-length
+same-length c = search needs
+
+returns : tie.Need-returns
+returns c = ?
+
+same-length-2 : tie.Need-same-length-2
+same-length-2 c = search needs
+
+returns-2 : tie.Need-returns-2
+returns-2 c = ?
+
+pub put-levels-spec : {M : Type 1} → statement M
+put-levels-spec =
+    tie.close
+    (tie.spec
+    enum-told
+    put-byte-requires
+    enum-known-pins
+    put-pair-requires
+    same-length
+    returns
+    same-length-2
+    returns-2)
