@@ -1,6 +1,7 @@
 pub mod Numbers
 pub mod Format
 pub mod Reading
+pub mod NumberLaws
 pub mod Lines
 pub mod Calls
 pub mod Puts

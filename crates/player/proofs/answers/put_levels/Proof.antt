@@ -22,13 +22,13 @@ same-length : tie.Need-same-length
 same-length c = search needs
 
 returns : tie.Need-returns
-returns c = ?
+returns c = simp (c .before .before .before .before .enum-told .given .1) (c .before .before .put-byte .ensures)
 
 same-length-2 : tie.Need-same-length-2
 same-length-2 c = search needs
 
 returns-2 : tie.Need-returns-2
-returns-2 c = ?
+returns-2 c = simp (c .before .before .before .before .before .pins .given .1) (c .before .before .put-pair .ensures)
 
 pub put-levels-spec : {M : Type 1} → statement M
 put-levels-spec =
