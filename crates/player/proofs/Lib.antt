@@ -2,3 +2,4 @@ pub mod Puts
 pub mod Rows
 pub mod Scans
 pub mod Tails
+pub mod Runs

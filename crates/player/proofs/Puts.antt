@@ -9,7 +9,7 @@ use native.Mathlib.Nat.{add-zero}
 use native.Mathlib.Numerals.{add-one}
 use native.Mathlib.Omega.{arith}
 use lib.Dec.{ltb}
-use lib.ListN.{length, take, drop, set, length-append, take-append-drop}
+use lib.ListN.{length, take, drop, set, length-append, length-drop, take-append-drop}
 use lib.Seq.{set-split, length-take-le, take-at, drop-at, drop-drop}
 use borrow.Author.Tests.{lt-ltb, le-ltb, ltb-true, ltb-false}
 use Rattle.player.specs.Numbers.{glyph, decimalIn, hexIn}
@@ -56,6 +56,14 @@ put-then {a} {b} {c} {at} {m} {r} {xs} {ys} h p q = record {
         ∙ ap (drop (length ys)) (ap (drop m) head ∙ drop-at (take at a ++ xs) (drop m a) m long)
         ∙ drop-drop (length ys) m a
         ∙ ap (λ (k : ℕ). drop k a) (sym (q .next))
+
+-- what is put lies within the buffer
+pub put-within : {a b : List ℕ} {r : ℕ} {xs : List ℕ} → Put a b 0 r xs → length b ≡ length a → r ≤ length a
+put-within {a} {b} {r} {xs} p e =
+    let f : length b ≡ length xs + length (drop r a) = ap length (p .is) ∙ length-append xs (drop r a) in
+    let n = p .next in
+    let d : length (drop r a) ≡ length a - r = length-drop r a in
+    omega arith
 
 pub put-as : {a b : List ℕ} {at r : ℕ} {xs ys : List ℕ} → xs ≡ ys → Put a b at r xs → Put a b at r ys
 put-as {a} {b} {at} {r} e p = subst (λ (l : List ℕ). Put a b at r l) e p

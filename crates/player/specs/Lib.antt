@@ -3,6 +3,7 @@ pub mod Format
 pub mod Reading
 pub mod NumberLaws
 pub mod Lines
+pub mod LineLaws
 pub mod Calls
 pub mod Puts
 pub mod Answers

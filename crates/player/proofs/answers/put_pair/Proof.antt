@@ -31,7 +31,7 @@ returns : tie.Need-returns
 returns c =
     let a = c .before .before .before .before .before .before .before .before .before .before .before .args in
     put-as (ap (λ (x : ℕ). x ∷ c .before .before .before .bit-glyph2 .result ∷ []) (c .before .before .before .before .before .before .before .before .bit-glyph .ensures) ∙ ap (λ (x : ℕ). bitGlyph (a .scl) ∷ x ∷ []) (c .before .before .before .bit-glyph2 .ensures))
-      (put-then (omega (arith, c .before .before .before .before .before .before .before .before .before .before .before .pre)) (c .before .before .before .before .before .before .before .put-byte .ensures) (c .before .before .put-byte2 .ensures))
+    (put-then (omega (arith, c .before .before .before .before .before .before .before .before .before .before .before .pre)) (c .before .before .before .before .before .before .before .put-byte .ensures) (c .before .before .put-byte2 .ensures))
 
 pub put-pair-spec : {M : Type 1} → statement M
 put-pair-spec =

@@ -31,7 +31,7 @@ returns c =
     let a = c .before .before .before .before .before .before .before .before .before .before .before .before .before .args in
     let h = c .before .before .before .before .before .before .before .before .before .before .before .before .before .pre in
     put-as (append-assoc (decimalIn 20 (a .time .seconds)) (58 ∷ []) (hexIn 16 (a .time .fraction)))
-      (put-then (omega (arith, h)) (put-then (omega (arith, h)) (c .before .before .before .before .before .before .before .before .before .before .put-decimal .ensures) (c .before .before .before .before .before .before .put-byte .ensures)) (c .before .before .put-hex .ensures))
+    (put-then (omega (arith, h)) (put-then (omega (arith, h)) (c .before .before .before .before .before .before .before .before .before .before .put-decimal .ensures) (c .before .before .before .before .before .before .put-byte .ensures)) (c .before .before .put-hex .ensures))
 
 pub put-time-spec : {M : Type 1} → statement M
 put-time-spec =

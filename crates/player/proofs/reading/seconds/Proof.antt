@@ -67,7 +67,7 @@ returns-3 c =
     let s = p .before .before .before .args .line .now in
     sym (l .inv .1
     ∙ scan-large s (l .i) (p .loop-test .taken) (l .n) (subst (λ (x : ℕ). x < 10) (d .ensures .0) (c .before .before .if1 .left)) (c .before .if2 .left)
-      (subst (λ (x : ℕ). 2 ^ 64 ≤ l .n * 10 + x) (d .ensures .0) (large (l .n) (d .result) (d .ensures .1) (c .if3 .taken))))
+    (subst (λ (x : ℕ). 2 ^ 64 ≤ l .n * 10 + x) (d .ensures .0) (large (l .n) (d .result) (d .ensures .1) (c .if3 .taken))))
 
 mul-n : tie.Need-mul-n Inv-loop μ-loop
 mul-n c = omega (arith, c .if3 .left)
@@ -90,7 +90,7 @@ loop-again c =
       omega arith,
       l .inv .1
           ∙ scan-on s (l .i) (p .loop-test .taken) (l .n) (subst (λ (x : ℕ). x < 10) (d .ensures .0) (c .before .before .if1 .left)) (c .before .if2 .left)
-            (subst (λ (x : ℕ). l .n * 10 + x < 2 ^ 64) (d .ensures .0) (fits (l .n) (d .result) (d .ensures .1) (c .if3 .left)))
+          (subst (λ (x : ℕ). l .n * 10 + x < 2 ^ 64) (d .ensures .0) (fits (l .n) (d .result) (d .ensures .1) (c .if3 .left)))
           ∙ ap (λ (x : ℕ). scan (l .n * 10 + x) (l .i + 1) (drop (l .i + 1) s)) (sym (d .ensures .0)),
     )
 

@@ -147,7 +147,7 @@ put-decimal-returns-3 t c =
     let d = c .before .before .before .before .before .before .before .put-decimal in
     let a = c .before .before .before .before .before .before .before .before .before .before .before .before .args in
     put-as (ap (λ (x : ℕ). decimalIn (a .k - 1) (a .n / 10) ++ (x ∷ [])) (c .before .before .before .glyph-of2 .ensures) ∙ decimal-more (a .k) (a .n) (omega arith) (c .before .before .before .before .before .before .before .before .before .if2 .left))
-      (put-then (omega (arith, c .before .before .before .before .before .before .before .before .before .before .before .before .pre)) (d .ensures) (c .before .before .put-byte2 .ensures))
+    (put-then (omega (arith, c .before .before .before .before .before .before .before .before .before .before .before .before .pre)) (d .ensures) (c .before .before .put-byte2 .ensures))
 
 pub +put-decimal-spec : {M : Type 1} → statement M
 +put-decimal-spec = close μ-put-decimal λ t. put-decimal-lts.spec (

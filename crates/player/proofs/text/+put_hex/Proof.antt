@@ -104,7 +104,7 @@ put-hex-returns-2 t c =
     let d = c .before .before .before .before .before .before .before .put-hex in
     let a = c .before .before .before .before .before .before .before .before .before .before .before .args in
     put-as (ap (λ (x : ℕ). hexIn (a .k - 1) (a .n / 16) ++ (x ∷ [])) (c .before .before .before .glyph-of .ensures) ∙ hex-more (a .k) (a .n) (omega arith))
-      (put-then (omega (arith, c .before .before .before .before .before .before .before .before .before .before .before .pre)) (d .ensures) (c .before .before .put-byte .ensures))
+    (put-then (omega (arith, c .before .before .before .before .before .before .before .before .before .before .before .pre)) (d .ensures) (c .before .before .put-byte .ensures))
 
 pub +put-hex-spec : {M : Type 1} → statement M
 +put-hex-spec = close μ-put-hex λ t. put-hex-lts.spec (
