@@ -1,7 +1,8 @@
 // Plays the trace on standard input and writes its answer lines to standard output as they come, in two buffers of 64 KiB, whatever the
 // length of the trace or of a line.
-ghost use Prim.Native.Nat.{_+_, _≤_};
-ghost use lib.ListN.{length};
+ghost use mathlib.Core.Path.{_≡_};
+ghost use Prim.Native.Nat.{_-_, _≤_, min};
+ghost use lib.ListN.{length, take, drop};
 use player::Player;
 
 // The bytes of the part that were played, the player after them, and whether all that they gave was written.
@@ -18,8 +19,14 @@ struct Turn {
     pub player: Player,
 }
 
-fn complain(text: &[u8]) {
-    io::write_all(2, text);
+// Writes all of it, or says on standard error that it can't.
+fn write_out(text: &[u8]) -> bool {
+    let fine = io::write_all(1, text);
+    if fine {
+        return true;
+    }
+    io::write_all(2, b"play: standard output can't be written\n");
+    false
 }
 
 // Plays what the output has room for and writes it.
@@ -28,7 +35,7 @@ fn play_some(player: Player, part: &[u8], ended: bool, output: &mut [u8]) -> Pla
 {
     let p = player.play_lines(part, ended, output);
     let written = p.written;
-    let fine = io::write_all(1, &output[0..written]);
+    let fine = write_out(&output[0..written]);
     let next = p.player;
     Played {
         used: p.used,
@@ -49,7 +56,6 @@ fn play_part(player: Player, part: &[u8], ended: bool, output: &mut [u8]) -> Pla
         last = next;
         used += p.used;
         if !p.fine {
-            complain(b"play: standard output can't be written\n");
             return Played {
                 used,
                 fine: false,
@@ -67,32 +73,34 @@ fn play_part(player: Player, part: &[u8], ended: bool, output: &mut [u8]) -> Pla
     }
 }
 
+fn least(a: usize, b: usize) -> usize
+    ensures { λ r. ⌜ r ≡ min a b ⌝ }
+{
+    if a < b { a } else { b }
+}
+
 // The bytes of a line that was begun move to the front, at most 65 of them: more make it no more malformed.
 fn keep(input: &mut [u8], from: usize, n: usize) -> usize
-    requires { ⌜ n ≤ length (now input) ⌝ }
-    ensures { λ r. ⌜ r ≤ 65 ⌝ }
+    requires { ⌜ (from ≤ n) × (n ≤ length (now input)) ⌝ }
+    ensures { λ r. ⌜ (r ≡ min 65 (n - from)) × (take r (now (input .exit)) ≡ take r (drop from (now (input .entry)))) ⌝ }
 {
+    let m = least(65, n - from);
     let mut i = 0usize;
-    let mut at = from;
-    while at < n {
-        if i == 65 {
-            break;
-        }
-        input[i] = input[at];
+    while i < m {
+        input[i] = input[from + i];
         i += 1;
-        at += 1;
     }
-    i
+    m
 }
 
 // One read, after the bytes that are held, and its lines.
-fn turn(player: Player, input: &mut [u8], have: usize, output: &mut [u8]) -> Turn
+fn next_turn(player: Player, input: &mut [u8], have: usize, output: &mut [u8]) -> Turn
     requires { ⌜ have ≤ length (now input) ⌝ }
     ensures { λ r. ⌜ r .have ≤ 65 ⌝ }
 {
     let got = libc::read(0, &mut input[have..]);
     if got < 0 {
-        complain(b"play: standard input can't be read\n");
+        io::write_all(2, b"play: standard input can't be read\n");
         return Turn {
             more: false,
             have: 0,
@@ -119,7 +127,7 @@ fn run(input: &mut [u8], output: &mut [u8])
     let mut turns = u64::MAX;
     while 0 < turns {
         turns -= 1;
-        let t = turn(player, input, have, output);
+        let t = next_turn(player, input, have, output);
         if !t.more {
             return;
         }

@@ -16,3 +16,6 @@ tail-mid a xs = take-all (length xs - a) (drop a xs) (tail-long a xs)
 
 pub tail-put : (a : ℕ) (xs ys : List ℕ) → putMid a (length xs - a) xs ys ≡ take a xs ++ ys
 tail-put a xs ys = ap (λ (l : List ℕ). take a xs ++ l) (ap (λ (l : List ℕ). ys ++ l) (drop-of-length-le (drop a xs) (tail-long a xs)) ∙ append-nil ys)
+
+pub part-long : (a : ℕ) (xs : List ℕ) → length (midOf a (length xs - a) xs) ≡ length xs - a
+part-long a xs = ap length (tail-mid a xs) ∙ length-drop a xs

@@ -8,3 +8,4 @@ pub mod Calls
 pub mod Puts
 pub mod Answers
 pub mod Trace
+pub mod TraceLaws

@@ -5,14 +5,13 @@ use mathlib.Core.List.{List, _++_}
 use Prim.Native.Nat.{ℕ, _+_, _-_, _≤_, _<_}
 use native.Mathlib.Omega.{arith}
 use borrow.Author.Needs.{needs}
-use lib.ListN.{length, take, drop, length-drop}
-use borrow.Rule.Slice.PartMut.{midOf}
+use lib.ListN.{length, take, drop}
 use Rattle.player.specs.Lines.{linesIn, lineLength}
 use Rattle.player.specs.LineLaws.{line-none, lines-end}
 use Rattle.player.specs.Puts.{Put}
 use Rattle.player.specs.Answers.{textOf}
 use Rattle.player.proofs.Puts.{put-within}
-use Rattle.player.proofs.Tails.{tail-mid, tail-put}
+use Rattle.player.proofs.Tails.{tail-mid, tail-put, part-long}
 use Rattle.player.proofs.Runs.{Going, going, going-as, finish, no-room, again, run-none, run-over}
 use Rattle.player.proofs.Player.play_lines.Statement.{statement}
 use Rattle.player.proofs.Player.play_lines.Tie as tie
@@ -30,9 +29,6 @@ Inv-loop part ended out₀ clocks host₀ lines₀ at₀ written₀ out host lin
 
 abbrev μ-loop : tie.MeasureT-loop
 μ-loop part ended out₀ clocks host₀ lines₀ at₀ written₀ out host lines at written = length part - at
-
-part-long : (a : ℕ) (xs : List ℕ) → length (midOf a (length xs - a) xs) ≡ length xs - a
-part-long a xs = ap length (tail-mid a xs) ∙ length-drop a xs
 
 trace-clocks-requires : tie.Need-trace-clocks-requires Inv-loop μ-loop
 trace-clocks-requires c κs = search needs

@@ -1,0 +1,50 @@
+-- `play::play_some` meets its contract: what was written lies within the output, what was used within the part.
+-- Assumes nothing.
+use mathlib.Core.Path.{_≡_, ap}
+use Prim.Native.Nat.{ℕ}
+use native.Mathlib.Omega.{arith}
+use Rattle.player.specs.declared.Progress.{Progress}
+use Rattle.player.specs.TraceLaws.{over-within}
+use borrow.Author.Needs.{needs}
+use Rattle.play.proofs.play_some.Statement.{statement}
+use Rattle.play.proofs.play_some.Tie as tie
+use Rattle.play.proofs.play_some.Reads as reads
+use Rattle.play.proofs.play_some.Lts as lts
+use Rattle.play.proofs.write_out.Reads as write-out-reads
+use Rattle.player.proofs.Player.play_lines.Reads as play-lines-reads
+
+play-lines-requires : tie.Need-play-lines-requires
+play-lines-requires c κs = search needs
+
+sub-write-out : tie.Need-sub-write-out
+sub-write-out c = search needs
+
+part-write-out-start : tie.Need-part-write-out-start
+part-write-out-start c = search needs
+
+part-write-out-end : tie.Need-part-write-out-end
+part-write-out-end c =
+    let q = c .before .before .before .play-lines in
+    let w = ap {B = ℕ} (λ (x : Progress). x .written) (q .ensures .0) in
+    omega (arith, w, over-within _ _ _ (q .ensures .1) (q .kept .1 .1 .1 .0), q .kept .1 .1 .1 .0)
+
+write-out-requires : tie.Need-write-out-requires
+write-out-requires c κs = search needs
+
+same-length : tie.Need-same-length
+same-length c = search needs
+
+returns : tie.Need-returns
+returns c = omega (arith, ap {B = ℕ} (λ (x : Progress). x .used) (c .before .before .before .before .before .before .play-lines .ensures .0))
+
+pub play-some-spec : {M : Type 1} → statement M
+play-some-spec =
+    tie.close
+    (tie.spec
+    play-lines-requires
+    sub-write-out
+    part-write-out-start
+    part-write-out-end
+    write-out-requires
+    same-length
+    returns)
