@@ -44,7 +44,7 @@ loop-holds : tie.Need-loop-holds Inv-loop μ-loop
 loop-holds c = (omega arith, refl, refl, λ k h. refl)
 
 add-input : tie.Need-add-input Inv-loop μ-loop
-add-input c = omega (arith, c .before .before .before .least .ensures)
+add-input c = omega (arith, c .before .before .least .ensures)
 
 slice-read-input : tie.Need-slice-read-input Inv-loop μ-loop
 slice-read-input c = omega (arith, c .before .before .before .least .ensures)

@@ -2,8 +2,11 @@
 -- Assumes nothing.
 use mathlib.Core.Path.{_≡_, ap}
 use Prim.Native.Nat.{ℕ}
+use lib.ListN.{length}
 use native.Mathlib.Omega.{arith}
 use Rattle.player.specs.declared.Progress.{Progress}
+use Rattle.player.specs.Lines.{linesIn}
+use Rattle.player.specs.Trace.{traceClocks, linesLeft, run}
 use Rattle.player.specs.TraceLaws.{over-within}
 use borrow.Author.Needs.{needs}
 use Rattle.play.proofs.play_some.Statement.{statement}
@@ -25,8 +28,9 @@ part-write-out-start c = search needs
 part-write-out-end : tie.Need-part-write-out-end
 part-write-out-end c =
     let q = c .before .before .before .play-lines in
+    let a = c .before .before .before .before .before .before .before .args in
     let w = ap {B = ℕ} (λ (x : Progress). x .written) (q .ensures .0) in
-    omega (arith, w, over-within _ _ _ (q .ensures .1) (q .kept .1 .1 .1 .0), q .kept .1 .1 .1 .0)
+    omega (arith, w, over-within (run traceClocks (a .player) (linesLeft (a .player) (linesIn (a .ended) (a .part .now))) (length (a .output .now))) (a .output .now) (q .last .1 .1 .1 .0) (q .ensures .1) (q .kept .1 .1 .1 .0), q .kept .1 .1 .1 .0)
 
 write-out-requires : tie.Need-write-out-requires
 write-out-requires c κs = search needs
