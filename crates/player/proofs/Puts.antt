@@ -1,26 +1,16 @@
 -- Laws of `Put`, and of the digits' definitions.
 -- Assumes nothing.
 use mathlib.Core.Path.{_≡_, refl, sym, ap, _∙_, subst}
-use mathlib.Core.Bool.{Bool, true, false}
 use mathlib.Core.List.{List, [], _∷_, _++_, append-assoc}
-use mathlib.Core.Logic.{_⊎_, inl, inr, ⊎-elim}
 use Prim.Native.Nat.{ℕ, zero, suc, _+_, _-_, _/_, _%_, _≤_, _<_}
 use native.Mathlib.Nat.{add-zero}
 use native.Mathlib.Numerals.{add-one}
 use native.Mathlib.Omega.{arith}
-use lib.Dec.{ltb}
 use lib.ListN.{length, take, drop, set, length-append, length-drop, take-append-drop}
 use lib.Seq.{set-split, length-take-le, take-at, drop-at, drop-drop}
-use borrow.Author.Tests.{lt-ltb, le-ltb, ltb-true, ltb-false}
+use borrow.Author.Tests.{lt-ltb, le-ltb}
 use Rattle.player.specs.Numbers.{glyph, decimalIn, hexIn}
 use Rattle.player.specs.Puts.{Put}
-
-pub lt-or-le : (a b : ℕ) → (a < b) ⊎ (b ≤ a)
-lt-or-le a b = told (ltb a b) refl
-  where
-    told : (t : Bool) → ltb a b ≡ t → (a < b) ⊎ (b ≤ a)
-    told true e = inl (ltb-true a b e)
-    told false e = inr (ltb-false a b e)
 
 pub put-none : (l : List ℕ) (at : ℕ) → Put l l at at []
 put-none l at = record { next = sym (add-zero at); is = sym (take-append-drop at l) }
@@ -84,15 +74,6 @@ pub decimal-more : (k n : ℕ) → 0 < k → 10 ≤ n → decimalIn (k - 1) (n /
 unfolding decimalIn
 decimal-more k n h l = sym (ap (λ (j : ℕ). decimalIn j n) (back k h) ∙ rw (le-ltb n 10 l))
 
-pub decimal-length : (k n : ℕ) → length (decimalIn k n) ≤ k
-unfolding decimalIn
-decimal-length zero n = omega arith
-decimal-length (suc k) n =
-    ⊎-elim
-    (λ l. rw (lt-ltb n 10 l) (omega arith))
-    (λ l. rw (le-ltb n 10 l) (let e : length (decimalIn k (n / 10) ++ (glyph (n % 10) ∷ [])) ≡ length (decimalIn k (n / 10)) + 1 = length-append (decimalIn k (n / 10)) (glyph (n % 10) ∷ []) in let f : length (decimalIn k (n / 10)) ≤ k = decimal-length k (n / 10) in omega arith))
-    (lt-or-le n 10)
-
 pub hex-none : (k n : ℕ) → k ≡ 0 → [] ≡ hexIn k n
 unfolding hexIn
 hex-none k n e = sym (ap (λ (j : ℕ). hexIn j n) e)
@@ -100,8 +81,3 @@ hex-none k n e = sym (ap (λ (j : ℕ). hexIn j n) e)
 pub hex-more : (k n : ℕ) → 0 < k → hexIn (k - 1) (n / 16) ++ (glyph (n % 16) ∷ []) ≡ hexIn k n
 unfolding hexIn
 hex-more k n h = sym (ap (λ (j : ℕ). hexIn j n) (back k h))
-
-pub hex-length : (k n : ℕ) → length (hexIn k n) ≡ k
-unfolding hexIn
-hex-length zero n = refl
-hex-length (suc k) n = length-append (hexIn k (n / 16)) (glyph (n % 16) ∷ []) ∙ ap (λ (j : ℕ). j + 1) (hex-length k (n / 16)) ∙ add-one k

@@ -12,7 +12,8 @@ use Rattle.player.specs.declared.Value.the-variants.{NoValue, Byte, Bit,
 use Rattle.player.specs.Numbers.{decimalIn, hexIn}
 use Rattle.player.specs.Puts.{Put}
 use Rattle.player.specs.Answers.{valueText, levelsText}
-use Rattle.player.proofs.Puts.{put-then, decimal-length, hex-length}
+use Rattle.player.specs.NumberLaws.{decimal-length, hex-length}
+use Rattle.player.proofs.Puts.{put-then}
 
 pub record Row (before after : List ℕ) (r : ℕ) (bytes : List ℕ) (most : ℕ) : Type 0 where
   pub put : Put before after 0 r bytes

@@ -1,7 +1,8 @@
 use mathlib.Core.List.{[], _∷_, append-assoc}
 use native.Mathlib.Omega.{arith}
 use Rattle.player.specs.Numbers.{decimalIn, hexIn}
-use Rattle.player.proofs.Puts.{put-then, put-as, decimal-length}
+use Rattle.player.specs.NumberLaws.{decimal-length}
+use Rattle.player.proofs.Puts.{put-then, put-as}
 use borrow.Author.Needs.{needs}
 use Rattle.player.proofs.answers.put_time.Statement.{statement}
 use Rattle.player.proofs.answers.put_time.Tie as tie

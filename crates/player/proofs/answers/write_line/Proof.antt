@@ -9,7 +9,8 @@ use Rattle.iic.specs.declared.Pins.{Pins}
 use Rattle.player.specs.declared.Value.{Value}
 use Rattle.player.specs.Numbers.{decimalIn, hexIn}
 use Rattle.player.specs.Answers.{valueText, levelsText, answerText}
-use Rattle.player.proofs.Puts.{put-as, decimal-length, hex-length}
+use Rattle.player.specs.NumberLaws.{decimal-length, hex-length}
+use Rattle.player.proofs.Puts.{put-as}
 use Rattle.player.proofs.Rows.{Row, first, more, value-length, levels-length}
 use borrow.Author.Needs.{needs}
 use Rattle.player.proofs.answers.write_line.Statement.{statement}

@@ -7,7 +7,8 @@ use native.Mathlib.Omega.{arith}
 use borrow.Author.Needs.{needs}
 use lib.ListN.{length}
 use Rattle.player.specs.Numbers.{hexIn}
-use Rattle.player.proofs.Puts.{put-none, put-then, put-as, hex-none, hex-more, hex-length}
+use Rattle.player.specs.NumberLaws.{hex-length}
+use Rattle.player.proofs.Puts.{put-none, put-then, put-as, hex-none, hex-more}
 use Prim.Native.Nat.{ℕ, _<_}
 use borrow.Fn.Kinds.{In}
 use borrow.Fn.PlainCycle.{Measures, is, falls, and}
