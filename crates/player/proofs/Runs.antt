@@ -9,7 +9,6 @@ use native.Mathlib.Omega.{arith}
 use lib.Dec.{ltb}
 use lib.ListN.{length, take, drop, length-append, length-drop, take-append-drop}
 use lib.Seq.{length-take-le, drop-drop, take-at, drop-at}
-use borrow.Author.Tests.{lt-ltb, le-ltb}
 use Rattle.clocks.specs.declared.Clocks.{Clocks}
 use Rattle.player.specs.declared.Player.{Player}
 use Rattle.player.specs.declared.Progress.{Progress}
@@ -19,6 +18,7 @@ use Rattle.player.specs.LineLaws.{line-next, line-none}
 use Rattle.player.specs.Calls.{answerOf}
 use Rattle.player.specs.Puts.{Put}
 use Rattle.player.specs.Answers.{textOf}
+use Rattle.player.specs.TraceLaws.{run-no-room, run-one-more}
 use Rattle.player.specs.Trace.{linesLeft, Run, stopped, lineText, nextPlayer, run, over, progressOf}
 
 -- bytes and a number used before a run
@@ -54,15 +54,13 @@ run-over k p ls free h = ap (λ (n : ℕ). run k p (take n ls) free) (none (p .l
     none n h = omega arith
 
 pub run-full : (k : Clocks) (p : Player) (l : List ℕ) (ls rest : List (List ℕ)) (free : ℕ) → ls ≡ l ∷ rest → p .lines < 1000000 → free < 80 → run k p (linesLeft p ls) free ≡ stopped p 6
-unfolding run
 run-full k p l ls rest free e below h =
-    ap (λ (x : List (List ℕ)). run k p (linesLeft p x) free) e ∙ ap (λ (x : List (List ℕ)). run k p x free) (take-next (p .lines) l rest below) ∙ rw (lt-ltb free 80 h)
+    ap (λ (x : List (List ℕ)). run k p (linesLeft p x) free) e ∙ ap (λ (x : List (List ℕ)). run k p x free) (take-next (p .lines) l rest below) ∙ run-no-room k p l (take (1000000 - (p .lines + 1)) rest) free h
 
 pub run-more : (k : Clocks) (p : Player) (l : List ℕ) (ls rest : List (List ℕ)) (free : ℕ) → ls ≡ l ∷ rest → p .lines < 1000000 → 80 ≤ free
     → run k p (linesLeft p ls) free ≡ prefix (lineText k p l) (suc (length l)) (run k (nextPlayer k p l) (linesLeft (nextPlayer k p l) rest) (free - length (lineText k p l)))
-unfolding run
 run-more k p l ls rest free e below h =
-    ap (λ (x : List (List ℕ)). run k p (linesLeft p x) free) e ∙ ap (λ (x : List (List ℕ)). run k p x free) (take-next (p .lines) l rest below) ∙ rw (le-ltb free 80 h)
+    ap (λ (x : List (List ℕ)). run k p (linesLeft p x) free) e ∙ ap (λ (x : List (List ℕ)). run k p x free) (take-next (p .lines) l rest below) ∙ run-one-more k p l (take (1000000 - (p .lines + 1)) rest) free h
 
 -- ## The loop's invariant: what is written is what the run has given so far, and the run goes on from here
 

@@ -10,3 +10,4 @@ pub mod Puts
 pub mod Answers
 pub mod Trace
 pub mod TraceLaws
+pub mod SplitLaws

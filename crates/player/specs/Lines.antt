@@ -18,6 +18,11 @@ linesFrom ended begun (x ∷ xs) = cond (eqb x 10) (begun ∷ linesFrom ended []
 unfoldable pub linesIn : Bool → List ℕ → List (List ℕ)
 linesIn ended bytes = linesFrom ended [] bytes
 
+-- the line that is begun after further bytes, and not closed
+unfoldable pub leftOf : List ℕ → List ℕ → List ℕ
+leftOf begun [] = begun
+leftOf begun (x ∷ xs) = cond (eqb x 10) (leftOf [] xs) (leftOf (begun ++ (x ∷ [])) xs)
+
 -- how many bytes stand before the first newline
 unfoldable pub lineLength : List ℕ → ℕ
 lineLength [] = 0

@@ -48,9 +48,9 @@ hex-first : (k n x : ℕ) (xs : List ℕ) (v : ℕ) → digitOf x < 16 → ((xs 
     → (x ∷ xs ≡ hexIn (suc k) v ++ drop k xs) × (v / 16 ^ suc k ≡ n)
 hex-first k n x xs v d r = (
   sym (
-  ap (λ (l : List ℕ). l ++ drop k xs) (hex-cons k v)
-  ∙ ap (λ (y : ℕ). y ∷ (hexIn k v ++ drop k xs)) (ap (λ (q : ℕ). glyph (q % 16)) (r .1) ∙ ap glyph (digit-is n (digitOf x) d) ∙ glyph-digit x d)
-  ∙ ap (λ (l : List ℕ). x ∷ l) (sym (r .0))),
+      ap (λ (l : List ℕ). l ++ drop k xs) (hex-cons k v)
+      ∙ ap (λ (y : ℕ). y ∷ (hexIn k v ++ drop k xs)) (ap (λ (q : ℕ). glyph (q % 16)) (r .1) ∙ ap glyph (digit-is n (digitOf x) d) ∙ glyph-digit x d)
+      ∙ ap (λ (l : List ℕ). x ∷ l) (sym (r .0))),
   above k v ∙ ap (λ (q : ℕ). q / 16) (r .1) ∙ rest-is n (digitOf x) d,
 )
   where
@@ -81,7 +81,7 @@ hex-text (suc k) n v ys e =
     let up : v / 16 ^ k / 16 ≡ n = sym (above k v) ∙ e in
     ap (λ (l : List ℕ). hexFrom (suc k) n (l ++ ys)) (hex-cons k v)
     ∙ simp (digit-glyph (v / 16 ^ k % 16) d, lt-ltb (v / 16 ^ k % 16) 16 d)
-      (hex-text k (n * 16 + v / 16 ^ k % 16) v ys (joined (v / 16 ^ k) n up))
+    (hex-text k (n * 16 + v / 16 ^ k % 16) v ys (joined (v / 16 ^ k) n up))
 
 -- ## Verbs
 
@@ -161,9 +161,11 @@ five-told a b c d f w e =
     ⊎-elim
     (λ u.
     let r = both (ltb (digitOf c) 2) (ltb (digitOf f) 2) (u .0) in
-    as-read (a ∷ b ∷ c ∷ d ∷ f ∷ []) (Pins (eqb (digitOf c) 1) (eqb (digitOf f) 1)) w (u .1)
-    (spelt a b c d f (bitGlyph (eqb (digitOf c) 1)) (bitGlyph (eqb (digitOf f) 1)) (eqb-true a 112 (s .0)) (eqb-true b 9 (s .1)) (eqb-true d 9 (s .2))
-      (bit-glyph c (ltb-true (digitOf c) 2 (r .0))) (bit-glyph f (ltb-true (digitOf f) 2 (r .1))), omega arith))
+    as-read (a ∷ b ∷ c ∷ d ∷ f ∷ []) (Pins (eqb (digitOf c) 1) (eqb (digitOf f) 1)) w (u .1) (
+      spelt a b c d f (bitGlyph (eqb (digitOf c) 1)) (bitGlyph (eqb (digitOf f) 1)) (eqb-true a 112 (s .0)) (eqb-true b 9 (s .1)) (eqb-true d 9 (s .2))
+          (bit-glyph c (ltb-true (digitOf c) 2 (r .0))) (bit-glyph f (ltb-true (digitOf f) 2 (r .1))),
+      omega arith,
+    ))
     (λ u. no-verb w (u .1))
     (chosen (ltb (digitOf c) 2 && ltb (digitOf f) 2) (IsVerb (Pins (eqb (digitOf c) 1) (eqb (digitOf f) 1))) NoVerb (IsVerb w) (t .1)))
     (λ t. no-verb w (t .1))
@@ -198,11 +200,11 @@ written-told c f g w e =
     found p q r e = as-read (119 ∷ 9 ∷ c ∷ 9 ∷ f ∷ g ∷ []) (Write (digitOf c) (digitOf f * 16 + digitOf g)) w e (
       ap (λ (y : ℕ). 119 ∷ 9 ∷ y ∷ 9 ∷ f ∷ g ∷ []) (sym (glyph-digit c (omega arith)))
           ∙ ap (λ (l : List ℕ). 119 ∷ 9 ∷ glyph (digitOf c) ∷ 9 ∷ l) (sym (
-            hex-two (digitOf f * 16 + digitOf g)
-            ∙ ap (λ (y : ℕ). glyph y ∷ glyph ((digitOf f * 16 + digitOf g) % 16) ∷ []) (high (digitOf f) (digitOf g) q r)
-            ∙ ap (λ (y : ℕ). glyph (digitOf f) ∷ glyph y ∷ []) (low (digitOf f) (digitOf g) q r)
-            ∙ ap (λ (y : ℕ). y ∷ glyph (digitOf g) ∷ []) (glyph-digit f q)
-            ∙ ap (λ (y : ℕ). f ∷ y ∷ []) (glyph-digit g r))),
+          hex-two (digitOf f * 16 + digitOf g)
+          ∙ ap (λ (y : ℕ). glyph y ∷ glyph ((digitOf f * 16 + digitOf g) % 16) ∷ []) (high (digitOf f) (digitOf g) q r)
+          ∙ ap (λ (y : ℕ). glyph (digitOf f) ∷ glyph y ∷ []) (low (digitOf f) (digitOf g) q r)
+          ∙ ap (λ (y : ℕ). y ∷ glyph (digitOf g) ∷ []) (glyph-digit f q)
+          ∙ ap (λ (y : ℕ). f ∷ y ∷ []) (glyph-digit g r))),
       (p, omega arith),
     )
 

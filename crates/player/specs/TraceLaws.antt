@@ -1,11 +1,27 @@
--- Laws: what a run leaves of a buffer.
+-- Laws: the steps of a run, and what it leaves of a buffer.
 -- Assumes nothing.
-use mathlib.Core.Path.{_≡_, ap, _∙_}
-use mathlib.Core.List.{List}
-use Prim.Native.Nat.{ℕ, _+_, _-_, _≤_}
+use mathlib.Core.Path.{_≡_, refl, ap, _∙_}
+use mathlib.Core.List.{List, [], _∷_}
+use Prim.Native.Nat.{ℕ, _+_, _-_, _≤_, _<_}
 use native.Mathlib.Omega.{arith}
 use lib.ListN.{length, drop, length-append, length-drop}
-use Rattle.player.specs.Trace.{Run, over}
+use borrow.Author.Tests.{lt-ltb, le-ltb}
+use Rattle.clocks.specs.declared.Clocks.{Clocks}
+use Rattle.player.specs.declared.Player.{Player}
+use Rattle.player.specs.Trace.{Run, stopped, then, lineText, nextPlayer, run, over}
+
+pub run-no-lines : (k : Clocks) (p : Player) (free : ℕ) → run k p [] free ≡ stopped p 0
+unfolding run
+run-no-lines k p free = refl
+
+pub run-no-room : (k : Clocks) (p : Player) (l : List ℕ) (ls : List (List ℕ)) (free : ℕ) → free < 80 → run k p (l ∷ ls) free ≡ stopped p 6
+unfolding run
+run-no-room k p l ls free h = rw (lt-ltb free 80 h)
+
+pub run-one-more : (k : Clocks) (p : Player) (l : List ℕ) (ls : List (List ℕ)) (free : ℕ) → 80 ≤ free
+    → run k p (l ∷ ls) free ≡ then (length l) (lineText k p l) (run k (nextPlayer k p l) ls (free - length (lineText k p l)))
+unfolding run
+run-one-more k p l ls free h = rw (le-ltb free 80 h)
 
 -- a run that went into a buffer fits it
 pub over-within : (r : Run) (before after : List ℕ) → after ≡ over r before → length after ≡ length before → length (r .bytes) ≤ length before

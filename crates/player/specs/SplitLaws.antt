@@ -1,0 +1,181 @@
+-- Laws: a trace may be played in parts. Played are the closed lines of a part, and what is left of it goes before the next part, cut to 65 bytes where
+-- it is longer: the answer lines are those of the whole trace.
+-- Assumes nothing.
+use mathlib.Core.Path.{_≡_, refl, sym, ap, _∙_, subst}
+use mathlib.Core.Bool.{Bool, true, false, cond}
+use mathlib.Core.List.{List, [], _∷_, _++_, append-assoc, append-nil}
+use mathlib.Core.Logic.{_⊎_, inl, inr, ⊎-elim}
+use Prim.Native.Nat.{ℕ, zero, suc, _+_, _-_, _≤_, _<_}
+use native.Mathlib.Nat.{add-assoc, sub-zero}
+use native.Mathlib.Omega.{arith}
+use lib.Dec.{ltb, eqb}
+use lib.ListN.{length, take, drop, length-append}
+use lib.Seq.{length-take-le}
+use borrow.Author.Tests.{lt-ltb, le-ltb}
+use Rattle.clocks.specs.declared.Clocks.{Clocks}
+use Rattle.player.specs.declared.Parsed.the-variants.{Malformed}
+use Rattle.player.specs.declared.Player.{Player}
+use Rattle.player.specs.declared.Host.{Host}
+use Rattle.player.specs.declared.Answer.{Answer}
+use Rattle.player.specs.Lines.{unclosed, linesFrom, linesIn, leftOf}
+use Rattle.player.specs.Reading.{callOf}
+use Rattle.player.specs.Calls.{parsedOf, answerOf}
+use Rattle.player.specs.Answers.{textOf}
+use Rattle.player.specs.Trace.{Run, stopped, then, lineText, nextPlayer, run}
+use Rattle.player.specs.NumberLaws.{below-or-not}
+use Rattle.player.specs.TraceLaws.{run-no-lines, run-no-room, run-one-more}
+
+-- ## Lines
+
+unclosed-none : (l : List ℕ) → unclosed false l ≡ []
+unclosed-none [] = refl
+unclosed-none (x ∷ xs) = refl
+
+-- the lines of two parts
+split-lines : (ended : Bool) (begun a b : List ℕ) → linesFrom ended begun (a ++ b) ≡ linesFrom false begun a ++ linesFrom ended (leftOf begun a) b
+unfolding linesFrom leftOf
+split-lines ended begun [] b = ap (λ (l : List (List ℕ)). l ++ linesFrom ended begun b) (sym (unclosed-none begun))
+split-lines ended begun (x ∷ xs) b = by (eqb x 10) (split-lines ended [] xs b) (split-lines ended (begun ++ (x ∷ [])) xs b)
+  where
+    by : (t : Bool) → linesFrom ended [] (xs ++ b) ≡ linesFrom false [] xs ++ linesFrom ended (leftOf [] xs) b
+        → linesFrom ended (begun ++ (x ∷ [])) (xs ++ b) ≡ linesFrom false (begun ++ (x ∷ [])) xs ++ linesFrom ended (leftOf (begun ++ (x ∷ [])) xs) b
+        → cond t (begun ∷ linesFrom ended [] (xs ++ b)) (linesFrom ended (begun ++ (x ∷ [])) (xs ++ b))
+        ≡ cond t (begun ∷ linesFrom false [] xs) (linesFrom false (begun ++ (x ∷ [])) xs) ++ linesFrom ended (cond t (leftOf [] xs) (leftOf (begun ++ (x ∷ [])) xs)) b
+    by true closed more = ap (λ (l : List (List ℕ)). begun ∷ l) closed
+    by false closed more = more
+
+-- a line that is begun can be read again from its first byte
+again : (ended : Bool) (a : List ℕ) (begun b : List ℕ) → ((c : List ℕ) → linesFrom ended [] (begun ++ c) ≡ linesFrom ended begun c)
+    → linesFrom ended [] (leftOf begun a ++ b) ≡ linesFrom ended (leftOf begun a) b
+unfolding leftOf linesFrom
+again ended [] begun b same = same b
+again ended (x ∷ xs) begun b same = by (eqb x 10) refl (again ended xs [] b (λ c. refl)) (again ended xs (begun ++ (x ∷ [])) b)
+  where
+    by : (t : Bool) → eqb x 10 ≡ t → linesFrom ended [] (leftOf [] xs ++ b) ≡ linesFrom ended (leftOf [] xs) b
+        → (((c : List ℕ) → linesFrom ended [] ((begun ++ (x ∷ [])) ++ c) ≡ linesFrom ended (begun ++ (x ∷ [])) c) → linesFrom ended [] (leftOf (begun ++ (x ∷ [])) xs ++ b) ≡ linesFrom ended (leftOf (begun ++ (x ∷ [])) xs) b)
+        → linesFrom ended [] (cond t (leftOf [] xs) (leftOf (begun ++ (x ∷ [])) xs) ++ b) ≡ linesFrom ended (cond t (leftOf [] xs) (leftOf (begun ++ (x ∷ [])) xs)) b
+    by true e closed more = closed
+    by false e closed more = more (λ c. ap (linesFrom ended []) (append-assoc begun (x ∷ []) c) ∙ same (x ∷ c) ∙ ap (λ (t : Bool). cond t (begun ∷ linesFrom ended [] c) (linesFrom ended (begun ++ (x ∷ [])) c)) e)
+
+-- what is left of a part goes before the next one
+pub parts-are-lines : (ended : Bool) (a b : List ℕ) → linesIn ended (a ++ b) ≡ linesIn false a ++ linesIn ended (leftOf [] a ++ b)
+unfolding linesIn
+parts-are-lines ended a b = split-lines ended [] a b ∙ ap (λ (l : List (List ℕ)). linesFrom false [] a ++ l) (sym (again ended a [] b (λ c. refl)))
+
+-- ## Runs
+
+-- one run after another
+abbrev pub runThen : Run → Run → Run
+runThen r q = record { bytes = r .bytes ++ q .bytes; used = r .used + q .used; player = q .player; refusal = q .refusal }
+
+then-run : (n : ℕ) (text : List ℕ) (r q : Run) → then n text (runThen r q) ≡ runThen (then n text r) q
+then-run n text r q =
+    ap (λ (l : List ℕ). record { bytes = l; used = suc n + (r .used + q .used); player = q .player; refusal = q .refusal }) (sym (append-assoc text (r .bytes) (q .bytes)))
+    ∙ ap (λ (u : ℕ). record { bytes = (text ++ r .bytes) ++ q .bytes; used = u; player = q .player; refusal = q .refusal }) (sym (add-assoc (suc n) (r .used) (q .used)))
+
+none-before : (p : Player) (r : Run) → r ≡ runThen (stopped p 0) r
+none-before p r = ap (λ (u : ℕ). record { bytes = r .bytes; used = u; player = r .player; refusal = r .refusal }) (zero-is (r .used))
+  where
+    zero-is : (n : ℕ) → n ≡ 0 + n
+    zero-is n = omega arith
+
+-- a run goes on where the one before it ended
+abbrev pub onward : Clocks → ℕ → List (List ℕ) → Run → Run
+onward k free ys r = runThen r (run k (r .player) ys (free - length (r .bytes)))
+
+-- lines played in two parts, the first of which had room for all of its own
+pub parts-are-run : (k : Clocks) (p : Player) (xs ys : List (List ℕ)) (free : ℕ) → run k p xs free .refusal ≡ 0
+    → run k p (xs ++ ys) free ≡ onward k free ys (run k p xs free)
+parts-are-run k p [] ys free e =
+    ap (run k p ys) (sym (sub-zero free)) ∙ none-before p (run k p ys (free - 0)) ∙ ap (onward k free ys) (sym (run-no-lines k p free))
+parts-are-run k p (l ∷ xs) ys free e =
+    ⊎-elim
+    (λ h. absurd (let z : 6 ≡ 0 = sym (ap (λ (r : Run). r .refusal) (run-no-room k p l xs free h)) ∙ e in omega arith))
+    (λ h.
+    let t = lineText k p l in
+    let r = run k (nextPlayer k p l) xs (free - length t) in
+    run-one-more k p l (xs ++ ys) free h
+    ∙ ap (then (length l) t) (parts-are-run k (nextPlayer k p l) xs ys (free - length t) (sym (ap (λ (x : Run). x .refusal) (run-one-more k p l xs free h)) ∙ e))
+    ∙ then-run (length l) t r (run k (r .player) ys (free - length t - length (r .bytes)))
+    ∙ ap (λ (n : ℕ). runThen (then (length l) t r) (run k (r .player) ys n)) (fewer free (length t) (length (r .bytes)) (length (t ++ r .bytes)) (length-append t (r .bytes)))
+    ∙ ap (onward k free ys) (sym (run-one-more k p l xs free h)))
+    (below-or-not free 80)
+  where
+    fewer : (f a b c : ℕ) → c ≡ a + b → f - a - b ≡ f - c
+    fewer f a b c h = omega arith
+
+-- ## Long lines
+
+-- a line of more than 64 bytes is malformed, whatever they are
+long-is-malformed : (l : List ℕ) → 64 < length l → callOf l ≡ Malformed
+unfolding callOf
+long-is-malformed l h = rw (lt-ltb 64 (length l) h)
+
+long-are-alike : (k : Clocks) (h : Host) (l m : List ℕ) → 64 < length l → 64 < length m → answerOf k h l ≡ answerOf k h m
+unfolding answerOf
+long-are-alike k h l m a b = ap (parsedOf k h) (long-is-malformed l a ∙ sym (long-is-malformed m b))
+
+-- the same lines, or two first lines that are too long and the same lines after them
+pub data Alike : List (List ℕ) → List (List ℕ) → Type 0 where
+  same : {ls : List (List ℕ)} → Alike ls ls
+  long : {l m : List ℕ} {ls : List (List ℕ)} → 64 < length l → 64 < length m → Alike (l ∷ ls) (m ∷ ls)
+
+-- what is told of two runs
+pub record Same (r q : Run) : Type 0 where
+  pub bytes : r .bytes ≡ q .bytes
+  pub player : r .player ≡ q .player
+  pub refusal : r .refusal ≡ q .refusal
+
+take-alike : (n : ℕ) {xs ys : List (List ℕ)} → Alike xs ys → Alike (take n xs) (take n ys)
+take-alike n same = same
+take-alike zero (long a b) = same
+take-alike (suc n) (long a b) = long a b
+
+unclosed-alike : (ended : Bool) (l m : List ℕ) → 64 < length l → 64 < length m → Alike (unclosed ended l) (unclosed ended m)
+unclosed-alike ended [] m h k = absurd (omega arith)
+unclosed-alike ended (x ∷ l) [] h k = absurd (omega arith)
+unclosed-alike true (x ∷ l) (y ∷ m) h k = long h k
+unclosed-alike false (x ∷ l) (y ∷ m) h k = same
+
+longer : (l : List ℕ) (z : ℕ) → 64 < length l → 64 < length (l ++ (z ∷ []))
+longer l z h = let e : length (l ++ (z ∷ [])) ≡ length l + 1 = length-append l (z ∷ []) in omega arith
+
+cut-lines : (ended : Bool) (l m b : List ℕ) → 64 < length l → 64 < length m → Alike (linesFrom ended l b) (linesFrom ended m b)
+unfolding linesFrom
+cut-lines ended l m [] h k = unclosed-alike ended l m h k
+cut-lines ended l m (z ∷ b) h k = by (eqb z 10) (cut-lines ended (l ++ (z ∷ [])) (m ++ (z ∷ [])) b (longer l z h) (longer m z k))
+  where
+    by : (t : Bool) → Alike (linesFrom ended (l ++ (z ∷ [])) b) (linesFrom ended (m ++ (z ∷ [])) b)
+        → Alike (cond t (l ∷ linesFrom ended [] b) (linesFrom ended (l ++ (z ∷ [])) b)) (cond t (m ∷ linesFrom ended [] b) (linesFrom ended (m ++ (z ∷ [])) b))
+    by true more = long h k
+    by false more = more
+
+-- a line and the lines after it, by the line's answer
+abbrev answered : Clocks → Player → List (List ℕ) → ℕ → ℕ → Answer → Run
+answered k p ls free n a = then n (textOf (p .lines + 1) a) (run k (record { lines = p .lines + 1; host = a .host }) ls (free - length (textOf (p .lines + 1) a)))
+
+alike-run : (k : Clocks) (p : Player) {xs ys : List (List ℕ)} (free : ℕ) → Alike xs ys → Same (run k p xs free) (run k p ys free)
+unfolding lineText
+alike-run k p free same = record { bytes = refl; player = refl; refusal = refl }
+alike-run k p free (long {l} {m} {ls} a b) = ⊎-elim no-room room (below-or-not free 80)
+  where
+    alike : {A : Type 0} (f : Run → A) → free < 80 → f (run k p (l ∷ ls) free) ≡ f (run k p (m ∷ ls) free)
+    alike f h = ap f (run-no-room k p l ls free h) ∙ sym (ap f (run-no-room k p m ls free h))
+
+    no-room : free < 80 → Same (run k p (l ∷ ls) free) (run k p (m ∷ ls) free)
+    no-room h = record { bytes = alike (λ r. r .bytes) h; player = alike (λ r. r .player) h; refusal = alike (λ r. r .refusal) h }
+
+    room : 80 ≤ free → Same (run k p (l ∷ ls) free) (run k p (m ∷ ls) free)
+    room h =
+        let e = long-are-alike k (p .host) l m a b in
+        record {
+          bytes = ap (λ (r : Run). r .bytes) (run-one-more k p l ls free h) ∙ ap (λ (x : Answer). answered k p ls free 0 x .bytes) e ∙ sym (ap (λ (r : Run). r .bytes) (run-one-more k p m ls free h));
+          player = ap (λ (r : Run). r .player) (run-one-more k p l ls free h) ∙ ap (λ (x : Answer). answered k p ls free 0 x .player) e ∙ sym (ap (λ (r : Run). r .player) (run-one-more k p m ls free h));
+          refusal = ap (λ (r : Run). r .refusal) (run-one-more k p l ls free h) ∙ ap (λ (x : Answer). answered k p ls free 0 x .refusal) e ∙ sym (ap (λ (r : Run). r .refusal) (run-one-more k p m ls free h));
+        }
+
+-- a line that was begun may be cut to its first 65 bytes
+pub cut-is-alike : (k : Clocks) (p : Player) (ended : Bool) (begun b : List ℕ) (n free : ℕ) → 65 ≤ length begun
+    → Same (run k p (take n (linesFrom ended begun b)) free) (run k p (take n (linesFrom ended (take 65 begun) b)) free)
+cut-is-alike k p ended begun b n free h =
+    alike-run k p free (take-alike n (cut-lines ended begun (take 65 begun) b (omega arith) (let e : length (take 65 begun) ≡ 65 = length-take-le 65 begun h in omega arith)))
