@@ -33,7 +33,8 @@ pub fn trace(seed: u64, lines: usize) -> Vec<u8> {
         }
         generator.line(&mut out);
     }
-    if generator.random.once_in(4) {
+    // An empty last line would be none without its newline.
+    if generator.random.once_in(4) && !out.ends_with(b"\n\n") {
         out.pop();
     }
     out

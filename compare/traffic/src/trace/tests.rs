@@ -9,8 +9,9 @@ fn a_seed_gives_one_trace() {
 
 #[test]
 fn so_many_lines_and_no_more() {
-    for lines in 1..50 {
-        assert_eq!(play(&trace(lines as u64, lines), usize::MAX).lines, lines);
+    for seed in 0..1000 {
+        let lines = 2 + seed as usize % 50;
+        assert_eq!(play(&trace(seed, lines), usize::MAX).lines, lines);
     }
 }
 
