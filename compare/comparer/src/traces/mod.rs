@@ -3,6 +3,8 @@ mod players;
 use crate::options::Options;
 use crate::shrink;
 use players::{Feeding, Program};
+use std::fs;
+use std::path::Path;
 use std::time::Instant;
 use traffic::random::Random;
 use traffic::trace;
@@ -36,6 +38,7 @@ pub fn compare(options: &Options) -> u64 {
     let start = Instant::now();
     let random = Random::new(options.seed);
     let mut comparison = Comparison { random, program, played: 0, fed: 0, lines: 0, differences: 0 };
+    comparison.section("examples", Comparison::examples);
     comparison.section("buffers of 0 to 400 bytes", Comparison::buffers);
     comparison.section("bytes at random", Comparison::noise);
     comparison.section("one byte damaged", Comparison::damage);
@@ -57,6 +60,22 @@ impl Comparison {
         let after = [self.played, self.fed, self.lines, self.differences];
         let [played, fed, lines, differences] = core::array::from_fn(|i| after[i] - before[i]);
         println!("{name:<28}{played:>10} played{fed:>8} fed{lines:>12} lines{differences:>6} differences");
+    }
+
+    /// The traces of the folder examples, whose answer lines stand beside them.
+    fn examples(&mut self) {
+        let folder = Path::new(env!("CARGO_MANIFEST_DIR")).join("../../examples");
+        let files = folder.read_dir().into_iter().flatten().flatten().map(|file| file.path());
+        for file in files.filter(|file| file.extension().is_some_and(|name| name == "trace")) {
+            let trace = fs::read(&file).unwrap_or_default();
+            self.check(&trace, trace.len() * 3);
+            self.feed(&trace, Feeding::Whole);
+            let answers = fs::read(file.with_extension("answers")).unwrap_or_default();
+            if plain_player::play(&trace, usize::MAX).bytes != answers {
+                self.differences += 1;
+                println!("difference: the answers beside {}", file.display());
+            }
+        }
     }
 
     /// Every size of buffer from 0 to 400 bytes, so that every line of a short trace is once the first without room.
