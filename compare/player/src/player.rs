@@ -54,9 +54,9 @@ impl Player {
         self.iic.deadline(&self.clocks).ok().flatten()
     }
 
-    /// Plays one line, with or without its newline, puts its answer line behind what is there, and says how it was refused,
-    /// or 0. The refusals 1, 9 and 10 can't come: the clocks hold no zero, and no call leads to a state of those kinds.
-    pub fn play(&mut self, line: &[u8], out: &mut Vec<u8>) -> u8 {
+    /// Plays one line, with or without its newline, and puts its answer line behind what is there. The refusals 1, 9 and 10
+    /// can't come: the clocks hold no zero, and no call leads to a state of those kinds.
+    pub fn play(&mut self, line: &[u8], out: &mut Vec<u8>) {
         self.lines += 1;
         let (refusal, value) = match self.answer(line.strip_suffix(b"\n").unwrap_or(line)) {
             Ok(value) => (0, value),
@@ -64,7 +64,6 @@ impl Player {
         };
         let (number, levels, status) = (self.lines, Levels(self.iic.pins()), self.iic.peek(STATUS));
         writeln!(out, "{number}\t{refusal}\t{value}\t{levels}\t{status:02x}").expect("a vector takes all");
-        refusal
     }
 
     fn answer(&mut self, line: &[u8]) -> Result<Value, u8> {

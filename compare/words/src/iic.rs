@@ -42,6 +42,14 @@ pub const STATE: usize = STALE_RELEASE + 1;
 
 pub type State = [u64; STATE];
 
+/// Flags of the status; AAS and ADZ are below them.
+pub const TDRE: u64 = 0x80;
+pub const TEND: u64 = 0x40;
+pub const RDRF: u64 = 0x20;
+pub const NACKF: u64 = 0x10;
+pub const STOP: u64 = 8;
+pub const AL: u64 = 4;
+
 /// The arguments are the time, then the operands. The crate calls knows each by its place in this list.
 #[derive(Clone, Copy, PartialEq, Eq, Debug)]
 pub enum Call {

@@ -2,11 +2,10 @@
 use super::Clocks;
 use reference::mcu::iic::Iic;
 use words::calls::{Answer, End};
-use words::iic::{self, Call, Peripheral, State};
+use words::iic::{self, Call, Peripheral, State, NACKF, TDRE};
 use words::layout::{self, Args};
 
-const TDRE: u64 = 0x80;
-const NACKF: u64 = 0x10;
+/// The phase of a frame that is through.
 const DONE: u64 = 2;
 
 pub struct Side {

@@ -2,15 +2,10 @@
 //! master now and then, and synchronous bytes.
 use super::{Driver, Host, Others};
 use crate::random::Random;
-use words::iic::{self, Call, State};
+use words::iic::{self, Call, State, AL, NACKF, RDRF, STOP, TDRE, TEND};
 use words::layout::Args;
 
-const TDRE: u64 = 0x80;
-const TEND: u64 = 0x40;
-const RDRF: u64 = 0x20;
-const NACKF: u64 = 0x10;
-const STOP: u64 = 8;
-const AL: u64 = 4;
+/// Commands for ICCR2.
 const START: u64 = 0x90;
 const END: u64 = 0x10;
 

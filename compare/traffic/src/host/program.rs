@@ -1,12 +1,9 @@
 //! What the host's program does: it serves the registers, changes its mind, or makes any call at all.
 use super::Host;
 use crate::random::Random;
-use words::iic::{self, Call, State};
+use words::iic::{self, Call, State, RDRF, TDRE, TEND};
 use words::layout::Args;
 
-const TDRE: u64 = 0x80;
-const TEND: u64 = 0x40;
-const RDRF: u64 = 0x20;
 /// NACKF, STOP, AL, AAS and ADZ.
 const EVENTS: u64 = 0x1f;
 
