@@ -24,8 +24,8 @@ fn hosts_agree() {
 /// else is changed by that one: either half of the rule does.
 #[test]
 fn half_of_the_rule_on_lifts_does() {
-    assert_eq!(parting(Idea::NoLift, 1_000_000), None);
-    assert_eq!(parting(Idea::NoFrameStart, 1_000_000), None);
+    assert_eq!(parting(Idea::NoLift, 3_000_000), None);
+    assert_eq!(parting(Idea::NoFrameStart, 3_000_000), None);
 }
 
 #[test]
