@@ -9,5 +9,6 @@ pub mod Calls
 pub mod Puts
 pub mod Answers
 pub mod Trace
+pub mod Parts
 pub mod TraceLaws
 pub mod SplitLaws

@@ -10,7 +10,7 @@ use native.Mathlib.Nat.{add-assoc, sub-zero}
 use native.Mathlib.Omega.{arith}
 use lib.Dec.{ltb, eqb}
 use lib.ListN.{length, take, drop, length-append}
-use lib.Seq.{length-take-le}
+use lib.Seq.{length-take-le, drop-append-add}
 use borrow.Author.Tests.{lt-ltb, le-ltb}
 use Rattle.clocks.specs.declared.Clocks.{Clocks}
 use Rattle.player.specs.declared.Parsed.the-variants.{Malformed}
@@ -22,6 +22,7 @@ use Rattle.player.specs.Reading.{callOf}
 use Rattle.player.specs.Calls.{parsedOf, answerOf}
 use Rattle.player.specs.Answers.{textOf}
 use Rattle.player.specs.Trace.{Run, stopped, then, lineText, nextPlayer, run}
+use Rattle.player.specs.Parts.{spentOn, runThen, onward, Alike, same, long, Same}
 use Rattle.player.specs.NumberLaws.{below-or-not}
 use Rattle.player.specs.TraceLaws.{run-no-lines, run-no-room, run-one-more}
 
@@ -48,25 +49,40 @@ split-lines ended begun (x ∷ xs) b = by (eqb x 10) (split-lines ended [] xs b)
 again : (ended : Bool) (a : List ℕ) (begun b : List ℕ) → ((c : List ℕ) → linesFrom ended [] (begun ++ c) ≡ linesFrom ended begun c)
     → linesFrom ended [] (leftOf begun a ++ b) ≡ linesFrom ended (leftOf begun a) b
 unfolding leftOf linesFrom
-again ended [] begun b same = same b
-again ended (x ∷ xs) begun b same = by (eqb x 10) refl (again ended xs [] b (λ c. refl)) (again ended xs (begun ++ (x ∷ [])) b)
+again ended [] begun b reread = reread b
+again ended (x ∷ xs) begun b reread = by (eqb x 10) refl (again ended xs [] b (λ c. refl)) (again ended xs (begun ++ (x ∷ [])) b)
   where
     by : (t : Bool) → eqb x 10 ≡ t → linesFrom ended [] (leftOf [] xs ++ b) ≡ linesFrom ended (leftOf [] xs) b
         → (((c : List ℕ) → linesFrom ended [] ((begun ++ (x ∷ [])) ++ c) ≡ linesFrom ended (begun ++ (x ∷ [])) c) → linesFrom ended [] (leftOf (begun ++ (x ∷ [])) xs ++ b) ≡ linesFrom ended (leftOf (begun ++ (x ∷ [])) xs) b)
         → linesFrom ended [] (cond t (leftOf [] xs) (leftOf (begun ++ (x ∷ [])) xs) ++ b) ≡ linesFrom ended (cond t (leftOf [] xs) (leftOf (begun ++ (x ∷ [])) xs)) b
     by true e closed more = closed
-    by false e closed more = more (λ c. ap (linesFrom ended []) (append-assoc begun (x ∷ []) c) ∙ same (x ∷ c) ∙ ap (λ (t : Bool). cond t (begun ∷ linesFrom ended [] c) (linesFrom ended (begun ++ (x ∷ [])) c)) e)
+    by false e closed more = more (λ c. ap (linesFrom ended []) (append-assoc begun (x ∷ []) c) ∙ reread (x ∷ c) ∙ ap (λ (t : Bool). cond t (begun ∷ linesFrom ended [] c) (linesFrom ended (begun ++ (x ∷ [])) c)) e)
 
 -- what is left of a part goes before the next one
 pub parts-are-lines : (ended : Bool) (a b : List ℕ) → linesIn ended (a ++ b) ≡ linesIn false a ++ linesIn ended (leftOf [] a ++ b)
 unfolding linesIn
 parts-are-lines ended a b = split-lines ended [] a b ∙ ap (λ (l : List (List ℕ)). linesFrom false [] a ++ l) (sym (again ended a [] b (λ c. refl)))
 
--- ## Runs
+-- what is left of a part is what follows its closed lines
+left-is-rest : (begun a : List ℕ) → drop (spentOn (linesFrom false begun a)) (begun ++ a) ≡ leftOf begun a
+unfolding linesFrom leftOf spentOn
+left-is-rest begun [] = ap (λ (l : List (List ℕ)). drop (spentOn l) (begun ++ [])) (unclosed-none begun) ∙ append-nil begun
+left-is-rest begun (x ∷ xs) = by (eqb x 10) (left-is-rest [] xs) (left-is-rest (begun ++ (x ∷ [])) xs)
+  where
+    past : (a b : ℕ) → suc a + b ≡ a + suc b
+    past a b = omega arith
 
--- one run after another
-abbrev pub runThen : Run → Run → Run
-runThen r q = record { bytes = r .bytes ++ q .bytes; used = r .used + q .used; player = q .player; refusal = q .refusal }
+    by : (t : Bool) → drop (spentOn (linesFrom false [] xs)) xs ≡ leftOf [] xs
+        → drop (spentOn (linesFrom false (begun ++ (x ∷ [])) xs)) ((begun ++ (x ∷ [])) ++ xs) ≡ leftOf (begun ++ (x ∷ [])) xs
+        → drop (spentOn (cond t (begun ∷ linesFrom false [] xs) (linesFrom false (begun ++ (x ∷ [])) xs))) (begun ++ x ∷ xs) ≡ cond t (leftOf [] xs) (leftOf (begun ++ (x ∷ [])) xs)
+    by true closed more = ap (λ (n : ℕ). drop n (begun ++ x ∷ xs)) (past (length begun) (spentOn (linesFrom false [] xs))) ∙ drop-append-add begun (x ∷ xs) (suc (spentOn (linesFrom false [] xs))) ∙ closed
+    by false closed more = ap (drop (spentOn (linesFrom false (begun ++ (x ∷ [])) xs))) (sym (append-assoc begun (x ∷ []) xs)) ∙ more
+
+pub left-follows : (a : List ℕ) → drop (spentOn (linesIn false a)) a ≡ leftOf [] a
+unfolding linesIn
+left-follows a = left-is-rest [] a
+
+-- ## Runs
 
 then-run : (n : ℕ) (text : List ℕ) (r q : Run) → then n text (runThen r q) ≡ runThen (then n text r) q
 then-run n text r q =
@@ -78,10 +94,6 @@ none-before p r = ap (λ (u : ℕ). record { bytes = r .bytes; used = u; player 
   where
     zero-is : (n : ℕ) → n ≡ 0 + n
     zero-is n = omega arith
-
--- a run goes on where the one before it ended
-abbrev pub onward : Clocks → ℕ → List (List ℕ) → Run → Run
-onward k free ys r = runThen r (run k (r .player) ys (free - length (r .bytes)))
 
 -- lines played in two parts, the first of which had room for all of its own
 pub parts-are-run : (k : Clocks) (p : Player) (xs ys : List (List ℕ)) (free : ℕ) → run k p xs free .refusal ≡ 0
@@ -104,6 +116,18 @@ parts-are-run k p (l ∷ xs) ys free e =
     fewer : (f a b c : ℕ) → c ≡ a + b → f - a - b ≡ f - c
     fewer f a b c h = omega arith
 
+-- a run that had room for all used them all
+pub used-is-spent : (k : Clocks) (p : Player) (ls : List (List ℕ)) (free : ℕ) → run k p ls free .refusal ≡ 0 → run k p ls free .used ≡ spentOn ls
+unfolding spentOn
+used-is-spent k p [] free e = ap (λ (r : Run). r .used) (run-no-lines k p free)
+used-is-spent k p (l ∷ ls) free e =
+    ⊎-elim
+    (λ h. absurd (let z : 6 ≡ 0 = sym (ap (λ (r : Run). r .refusal) (run-no-room k p l ls free h)) ∙ e in omega arith))
+    (λ h.
+    ap (λ (r : Run). r .used) (run-one-more k p l ls free h)
+    ∙ ap (λ (n : ℕ). suc (length l) + n) (used-is-spent k (nextPlayer k p l) ls (free - length (lineText k p l)) (sym (ap (λ (r : Run). r .refusal) (run-one-more k p l ls free h)) ∙ e)))
+    (below-or-not free 80)
+
 -- ## Long lines
 
 -- a line of more than 64 bytes is malformed, whatever they are
@@ -114,17 +138,6 @@ long-is-malformed l h = rw (lt-ltb 64 (length l) h)
 long-are-alike : (k : Clocks) (h : Host) (l m : List ℕ) → 64 < length l → 64 < length m → answerOf k h l ≡ answerOf k h m
 unfolding answerOf
 long-are-alike k h l m a b = ap (parsedOf k h) (long-is-malformed l a ∙ sym (long-is-malformed m b))
-
--- the same lines, or two first lines that are too long and the same lines after them
-pub data Alike : List (List ℕ) → List (List ℕ) → Type 0 where
-  same : {ls : List (List ℕ)} → Alike ls ls
-  long : {l m : List ℕ} {ls : List (List ℕ)} → 64 < length l → 64 < length m → Alike (l ∷ ls) (m ∷ ls)
-
--- what is told of two runs
-pub record Same (r q : Run) : Type 0 where
-  pub bytes : r .bytes ≡ q .bytes
-  pub player : r .player ≡ q .player
-  pub refusal : r .refusal ≡ q .refusal
 
 take-alike : (n : ℕ) {xs ys : List (List ℕ)} → Alike xs ys → Alike (take n xs) (take n ys)
 take-alike n same = same

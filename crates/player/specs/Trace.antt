@@ -58,9 +58,13 @@ run k p [] free = stopped p 0
 run k p (l ∷ ls) free =
     cond (ltb free 80) (stopped p 6) (then (length l) (lineText k p l) (run k (nextPlayer k p l) ls (free - length (lineText k p l))))
 
+-- a part of a trace, from the player that the part before left; the trace ends with it or goes on
+abbrev pub partOf : Player → Bool → List ℕ → ℕ → Run
+partOf p ended part free = run traceClocks p (linesLeft p (linesIn ended part)) free
+
 -- a whole trace
 unfoldable pub runOf : List ℕ → ℕ → Run
-runOf trace free = run traceClocks freshPlayer (linesLeft freshPlayer (linesIn true trace)) free
+runOf trace free = partOf freshPlayer true trace free
 
 -- the buffer after it: answer lines from its first byte on, the rest unchanged
 abbrev pub over : Run → List ℕ → List ℕ

@@ -2,8 +2,7 @@
 ghost use mathlib.Core.Path.{_≡_};
 ghost use mathlib.Core.List.{_++_};
 ghost use lib.ListN.{length, drop};
-ghost use Rattle.player.specs.Lines.{linesIn};
-ghost use Rattle.player.specs.Trace.{traceClocks, freshPlayer, linesLeft, run, runOf, over, progressOf, summaryOf};
+ghost use Rattle.player.specs.Trace.{traceClocks, freshPlayer, partOf, runOf, over, progressOf, summaryOf};
 
 pub mod answers;
 pub mod calls;
@@ -121,7 +120,7 @@ impl Player {
 
     // Plays the lines of a part of a trace while 80 bytes are free. Where the trace goes on, a last line without its newline isn't played.
     pub fn play_lines(self, part: &[u8], ended: bool, out: &mut [u8]) -> Progress
-        ensures { λ r. ⌜ (r ≡ progressOf (length (now (part .entry))) (run traceClocks self (linesLeft self (linesIn ended (now (part .entry)))) (length (now (out .entry))))) × (now (out .exit) ≡ over (run traceClocks self (linesLeft self (linesIn ended (now (part .entry)))) (length (now (out .entry)))) (now (out .entry))) ⌝ }
+        ensures { λ r. ⌜ (r ≡ progressOf (length (now (part .entry))) (partOf self ended (now (part .entry)) (length (now (out .entry))))) × (now (out .exit) ≡ over (partOf self ended (now (part .entry)) (length (now (out .entry)))) (now (out .entry))) ⌝ }
     {
         let clocks = trace_clocks();
         let mut host = self.host;

@@ -9,9 +9,6 @@ use lib.ListN.{length, take, drop, getD, set, length-set, length-drop}
 use lib.Seq.{take-suc, take-suc-set, getD-drop, getD-set-other}
 use Rattle.play.proofs.keep.Statement.{statement}
 use Rattle.play.proofs.keep.Tie as tie
-use Rattle.play.proofs.keep.Reads as reads
-use Rattle.play.proofs.keep.Lts as lts
-use Rattle.play.proofs.least.Reads as least-reads
 
 abbrev Inv-loop : tie.InvT-loop
 Inv-loop input₀ from n m i₀ input i = (i ≤ m) × (length input ≡ length input₀) × (take i input ≡ take i (drop from input₀)) × ((k : ℕ) → i ≤ k → getD input k 0 ≡ getD input₀ k 0)

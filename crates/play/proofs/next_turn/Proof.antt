@@ -11,13 +11,6 @@ use Rattle.player.proofs.Tails.{tail-put, part-long}
 use borrow.Author.Needs.{needs}
 use Rattle.play.proofs.next_turn.Statement.{statement}
 use Rattle.play.proofs.next_turn.Tie as tie
-use Rattle.play.proofs.next_turn.Reads as reads
-use Rattle.play.proofs.next_turn.Lts as lts
-use Rattle.io.proofs.count.Reads as count-reads
-use Rattle.io.proofs.write_all.Reads as write-all-reads
-use Rattle.libc.proofs.read.Reads as read-reads
-use Rattle.play.proofs.keep.Reads as keep-reads
-use Rattle.play.proofs.play_part.Reads as play-part-reads
 
 -- a part that runs to the end of a slice, put back as long as it was
 back : (a : ℕ) (xs ys : List ℕ) → length ys ≡ length (midOf a (length xs - a) xs) → a ≤ length xs → length (putMid a (length xs - a) xs ys) ≡ length xs

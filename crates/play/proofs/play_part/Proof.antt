@@ -9,9 +9,6 @@ use lib.ListN.{length}
 use Rattle.player.proofs.Tails.{part-long}
 use Rattle.play.proofs.play_part.Statement.{statement}
 use Rattle.play.proofs.play_part.Tie as tie
-use Rattle.play.proofs.play_part.Reads as reads
-use Rattle.play.proofs.play_part.Lts as lts
-use Rattle.play.proofs.play_some.Reads as play-some-reads
 
 abbrev Inv-loop : tie.InvT-loop
 Inv-loop part ended output₀ used₀ last₀ output used last = (used ≤ length part) × (length output ≡ length output₀)

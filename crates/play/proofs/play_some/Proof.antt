@@ -11,10 +11,6 @@ use Rattle.player.specs.TraceLaws.{over-within}
 use borrow.Author.Needs.{needs}
 use Rattle.play.proofs.play_some.Statement.{statement}
 use Rattle.play.proofs.play_some.Tie as tie
-use Rattle.play.proofs.play_some.Reads as reads
-use Rattle.play.proofs.play_some.Lts as lts
-use Rattle.play.proofs.write_out.Reads as write-out-reads
-use Rattle.player.proofs.Player.play_lines.Reads as play-lines-reads
 
 play-lines-requires : tie.Need-play-lines-requires
 play-lines-requires c κs = search needs

@@ -6,10 +6,6 @@ use mathlib.Core.Path.{_≡_}
 use lib.ListN.{length}
 use Rattle.play.proofs.run.Statement.{statement}
 use Rattle.play.proofs.run.Tie as tie
-use Rattle.play.proofs.run.Reads as reads
-use Rattle.play.proofs.run.Lts as lts
-use Rattle.play.proofs.next_turn.Reads as next-turn-reads
-use Rattle.player.proofs.Player.new.Reads as new-reads
 
 abbrev Inv-loop : tie.InvT-loop
 Inv-loop input₀ output₀ player₀ have₀ turns₀ input output player have turns = (have ≤ 65) × (length input ≡ length input₀) × (length output ≡ length output₀) × (turns < 2 ^ 64)

@@ -2,10 +2,6 @@ use Rattle.player.specs.Trace.{traceClocks}
 use borrow.Author.Needs.{needs}
 use Rattle.player.proofs.trace_clocks.Statement.{statement}
 use Rattle.player.proofs.trace_clocks.Tie as tie
-use Rattle.player.proofs.trace_clocks.Reads as reads
-use Rattle.player.proofs.trace_clocks.Lts as lts
-use Rattle.clocks.proofs.Clocks.new.Reads as new-reads
-use Rattle.clocks.proofs.Frequencies.default.Reads as default-reads
 
 default-requires : tie.Need-default-requires
 default-requires c κs = search needs

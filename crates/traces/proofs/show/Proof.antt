@@ -10,11 +10,6 @@ use Rattle.player.specs.TraceLaws.{over-within}
 use borrow.Author.Needs.{needs}
 use Rattle.traces.proofs.show.Statement.{statement}
 use Rattle.traces.proofs.show.Tie as tie
-use Rattle.traces.proofs.show.Reads as reads
-use Rattle.traces.proofs.show.Lts as lts
-use Rattle.player.proofs.play.Reads as play-reads
-use Rattle.traces.proofs.number.Reads as number-reads
-use Rattle.traces.proofs.text.Reads as text-reads
 
 play-requires : tie.Need-play-requires
 play-requires c κs = search needs

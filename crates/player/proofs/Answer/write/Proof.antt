@@ -5,10 +5,6 @@ use Rattle.iic.specs.declared.Pins.{Pins}
 use borrow.Author.Needs.{needs}
 use Rattle.player.proofs.Answer.write.Statement.{statement}
 use Rattle.player.proofs.Answer.write.Tie as tie
-use Rattle.player.proofs.Answer.write.Reads as reads
-use Rattle.player.proofs.Answer.write.Lts as lts
-use Rattle.iic.proofs.Iic.pins.Reads as pins-reads
-use Rattle.player.proofs.answers.write_line.Reads as write-line-reads
 
 pins-requires : tie.Need-pins-requires
 pins-requires c κs = search needs

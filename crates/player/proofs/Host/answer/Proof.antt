@@ -2,11 +2,6 @@ use Rattle.player.specs.Calls.{answerOf}
 use borrow.Author.Needs.{needs}
 use Rattle.player.proofs.Host.answer.Statement.{statement}
 use Rattle.player.proofs.Host.answer.Tie as tie
-use Rattle.player.proofs.Host.answer.Reads as reads
-use Rattle.player.proofs.Host.answer.Lts as lts
-use Rattle.player.proofs.Host.called.Reads as called-reads
-use Rattle.player.proofs.Host.refused.Reads as refused-reads
-use Rattle.player.proofs.reading.parse.Reads as parse-reads
 
 parse-requires : tie.Need-parse-requires
 parse-requires c κs = search needs

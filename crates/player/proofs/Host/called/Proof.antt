@@ -2,12 +2,6 @@ use Rattle.player.specs.Calls.{calledOf}
 use borrow.Author.Needs.{needs}
 use Rattle.player.proofs.Host.called.Statement.{statement}
 use Rattle.player.proofs.Host.called.Tie as tie
-use Rattle.player.proofs.Host.called.Reads as reads
-use Rattle.player.proofs.Host.called.Lts as lts
-use Rattle.player.proofs.Host.refused.Reads as refused-reads
-use Rattle.player.proofs.Last.admits.Reads as admits-reads
-use Rattle.player.proofs.calls.outcome.Reads as outcome-reads
-use Rattle.player.proofs.calls.taken_at.Reads as taken-at-reads
 
 admits-requires : tie.Need-admits-requires
 admits-requires c κs = search needs

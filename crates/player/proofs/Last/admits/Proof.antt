@@ -1,9 +1,6 @@
 use borrow.Author.Needs.{needs}
 use Rattle.player.proofs.Last.admits.Statement.{statement}
 use Rattle.player.proofs.Last.admits.Tie as tie
-use Rattle.player.proofs.Last.admits.Reads as reads
-use Rattle.player.proofs.Last.admits.Lts as lts
-use Rattle.time.proofs.Time.before.Reads as before-reads
 
 enum-told : tie.Need-enum-told
 enum-told c = search needs

@@ -2,9 +2,6 @@ use Rattle.player.specs.Trace.{freshPlayer}
 use borrow.Author.Needs.{needs}
 use Rattle.player.proofs.Player.new.Statement.{statement}
 use Rattle.player.proofs.Player.new.Tie as tie
-use Rattle.player.proofs.Player.new.Reads as reads
-use Rattle.player.proofs.Player.new.Lts as lts
-use Rattle.iic.proofs.Iic.new.Reads as new-reads
 
 new-requires : tie.Need-new-requires
 new-requires c κs = search needs

@@ -15,13 +15,6 @@ use Rattle.player.proofs.Tails.{tail-mid, tail-put, part-long}
 use Rattle.player.proofs.Runs.{Going, going, going-as, finish, no-room, again, run-none, run-over}
 use Rattle.player.proofs.Player.play_lines.Statement.{statement}
 use Rattle.player.proofs.Player.play_lines.Tie as tie
-use Rattle.player.proofs.Player.play_lines.Reads as reads
-use Rattle.player.proofs.Player.play_lines.Lts as lts
-use Rattle.player.proofs.Answer.write.Reads as write-reads
-use Rattle.player.proofs.Host.answer.Reads as answer-reads
-use Rattle.player.proofs.lines.line_end.Reads as line-end-reads
-use Rattle.player.proofs.lines.past.Reads as past-reads
-use Rattle.player.proofs.trace_clocks.Reads as trace-clocks-reads
 
 abbrev Inv-loop : tie.InvT-loop
 Inv-loop part ended out₀ clocks host₀ lines₀ at₀ written₀ out host lines at written =

@@ -1,10 +1,6 @@
 use borrow.Author.Needs.{needs}
 use Rattle.player.proofs.answers.put_levels.Statement.{statement}
 use Rattle.player.proofs.answers.put_levels.Tie as tie
-use Rattle.player.proofs.answers.put_levels.Reads as reads
-use Rattle.player.proofs.answers.put_levels.Lts as lts
-use Rattle.player.proofs.answers.put_pair.Reads as put-pair-reads
-use Rattle.player.proofs.text.put_byte.Reads as put-byte-reads
 
 enum-told : tie.Need-enum-told
 enum-told c = search needs

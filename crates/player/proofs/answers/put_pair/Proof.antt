@@ -7,10 +7,6 @@ use Rattle.player.proofs.Puts.{put-then, put-as}
 use borrow.Author.Needs.{needs}
 use Rattle.player.proofs.answers.put_pair.Statement.{statement}
 use Rattle.player.proofs.answers.put_pair.Tie as tie
-use Rattle.player.proofs.answers.put_pair.Reads as reads
-use Rattle.player.proofs.answers.put_pair.Lts as lts
-use Rattle.player.proofs.answers.bit_glyph.Reads as bit-glyph-reads
-use Rattle.player.proofs.text.put_byte.Reads as put-byte-reads
 
 bit-glyph-requires : tie.Need-bit-glyph-requires
 bit-glyph-requires c κs = search needs

@@ -6,11 +6,6 @@ use Rattle.player.proofs.Puts.{put-then, put-as}
 use borrow.Author.Needs.{needs}
 use Rattle.player.proofs.answers.put_time.Statement.{statement}
 use Rattle.player.proofs.answers.put_time.Tie as tie
-use Rattle.player.proofs.answers.put_time.Reads as reads
-use Rattle.player.proofs.answers.put_time.Lts as lts
-use Rattle.player.proofs.text.put_byte.Reads as put-byte-reads
-use Rattle.player.proofs.text.put_decimal.Reads as put-decimal-reads
-use Rattle.player.proofs.text.put_hex.Reads as put-hex-reads
 
 put-decimal-requires : tie.Need-put-decimal-requires
 put-decimal-requires c κs = search needs

@@ -5,12 +5,6 @@ use Rattle.player.proofs.Puts.{put-as}
 use borrow.Author.Needs.{needs}
 use Rattle.player.proofs.answers.put_value.Statement.{statement}
 use Rattle.player.proofs.answers.put_value.Tie as tie
-use Rattle.player.proofs.answers.put_value.Reads as reads
-use Rattle.player.proofs.answers.put_value.Lts as lts
-use Rattle.player.proofs.answers.bit_glyph.Reads as bit-glyph-reads
-use Rattle.player.proofs.answers.put_time.Reads as put-time-reads
-use Rattle.player.proofs.text.put_byte.Reads as put-byte-reads
-use Rattle.player.proofs.text.put_hex.Reads as put-hex-reads
 
 enum-told : tie.Need-enum-told
 enum-told c = search needs

@@ -1,8 +1,6 @@
 use borrow.Author.Needs.{needs}
 use Rattle.player.proofs.calls.of_deadline.Statement.{statement}
 use Rattle.player.proofs.calls.of_deadline.Tie as tie
-use Rattle.player.proofs.calls.of_deadline.Reads as reads
-use Rattle.player.proofs.calls.of_deadline.Lts as lts
 
 enum-told : tie.Need-enum-told
 enum-told c = search needs

@@ -1,8 +1,6 @@
 use borrow.Author.Needs.{needs}
 use Rattle.player.proofs.calls.of_pins.Statement.{statement}
 use Rattle.player.proofs.calls.of_pins.Tie as tie
-use Rattle.player.proofs.calls.of_pins.Reads as reads
-use Rattle.player.proofs.calls.of_pins.Lts as lts
 
 enum-known-answer : tie.Need-enum-known-answer
 enum-known-answer c = search needs

@@ -1,8 +1,6 @@
 use borrow.Author.Needs.{needs}
 use Rattle.player.proofs.calls.of_read.Statement.{statement}
 use Rattle.player.proofs.calls.of_read.Tie as tie
-use Rattle.player.proofs.calls.of_read.Reads as reads
-use Rattle.player.proofs.calls.of_read.Lts as lts
 
 enum-known-answer : tie.Need-enum-known-answer
 enum-known-answer c = search needs

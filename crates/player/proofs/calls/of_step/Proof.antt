@@ -1,8 +1,6 @@
 use borrow.Author.Needs.{needs}
 use Rattle.player.proofs.calls.of_step.Statement.{statement}
 use Rattle.player.proofs.calls.of_step.Tie as tie
-use Rattle.player.proofs.calls.of_step.Reads as reads
-use Rattle.player.proofs.calls.of_step.Lts as lts
 
 enum-told : tie.Need-enum-told
 enum-told c = search needs

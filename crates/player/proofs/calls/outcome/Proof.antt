@@ -2,18 +2,6 @@ use Rattle.player.specs.Calls.{outcomeOf}
 use borrow.Author.Needs.{needs}
 use Rattle.player.proofs.calls.outcome.Statement.{statement}
 use Rattle.player.proofs.calls.outcome.Tie as tie
-use Rattle.player.proofs.calls.outcome.Reads as reads
-use Rattle.player.proofs.calls.outcome.Lts as lts
-use Rattle.iic.proofs.Iic.advance.Reads as advance-reads
-use Rattle.iic.proofs.Iic.deadline.Reads as deadline-reads
-use Rattle.iic.proofs.Iic.input_pins.Reads as input-pins-reads
-use Rattle.iic.proofs.Iic.read.Reads as read-reads
-use Rattle.iic.proofs.Iic.set_gate.Reads as set-gate-reads
-use Rattle.iic.proofs.Iic.write.Reads as write-reads
-use Rattle.player.proofs.calls.of_deadline.Reads as of-deadline-reads
-use Rattle.player.proofs.calls.of_pins.Reads as of-pins-reads
-use Rattle.player.proofs.calls.of_read.Reads as of-read-reads
-use Rattle.player.proofs.calls.of_step.Reads as of-step-reads
 
 enum-known-verb : tie.Need-enum-known-verb
 enum-known-verb c = search needs

@@ -1,8 +1,6 @@
 use Rattle.player.specs.Reading.{bareOf}
 use Rattle.player.proofs.reading.bare.Statement.{statement}
 use Rattle.player.proofs.reading.bare.Tie as tie
-use Rattle.player.proofs.reading.bare.Reads as reads
-use Rattle.player.proofs.reading.bare.Lts as lts
 
 returns : tie.Need-returns
 unfolding bareOf

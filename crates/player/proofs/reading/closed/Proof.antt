@@ -2,8 +2,6 @@ use Rattle.player.specs.Reading.{closedBy}
 use borrow.Author.Needs.{needs}
 use Rattle.player.proofs.reading.closed.Statement.{statement}
 use Rattle.player.proofs.reading.closed.Tie as tie
-use Rattle.player.proofs.reading.closed.Reads as reads
-use Rattle.player.proofs.reading.closed.Lts as lts
 
 add-t8 : tie.Need-add-t8
 add-t8 c = search needs

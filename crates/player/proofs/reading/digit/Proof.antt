@@ -4,8 +4,6 @@ use Rattle.player.specs.Reading.{digitOf}
 use borrow.Author.Needs.{needs}
 use Rattle.player.proofs.reading.digit.Statement.{statement}
 use Rattle.player.proofs.reading.digit.Tie as tie
-use Rattle.player.proofs.reading.digit.Reads as reads
-use Rattle.player.proofs.reading.digit.Lts as lts
 
 returns : tie.Need-returns
 unfolding digitOf

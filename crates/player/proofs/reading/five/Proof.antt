@@ -2,9 +2,6 @@ use Rattle.player.specs.Reading.{fiveOf}
 use borrow.Author.Needs.{needs}
 use Rattle.player.proofs.reading.five.Statement.{statement}
 use Rattle.player.proofs.reading.five.Tie as tie
-use Rattle.player.proofs.reading.five.Reads as reads
-use Rattle.player.proofs.reading.five.Lts as lts
-use Rattle.player.proofs.reading.pair.Reads as pair-reads
 
 shared-slice-read-parted : tie.Need-shared-slice-read-parted
 shared-slice-read-parted c = search needs

@@ -2,9 +2,6 @@ use Rattle.player.specs.Reading.{pairOf}
 use borrow.Author.Needs.{needs}
 use Rattle.player.proofs.reading.pair.Statement.{statement}
 use Rattle.player.proofs.reading.pair.Tie as tie
-use Rattle.player.proofs.reading.pair.Reads as reads
-use Rattle.player.proofs.reading.pair.Lts as lts
-use Rattle.player.proofs.reading.digit.Reads as digit-reads
 
 digit-requires : tie.Need-digit-requires
 digit-requires c κs = search needs

@@ -9,10 +9,6 @@ use Rattle.player.proofs.Tails.{tail-mid}
 use borrow.Author.Needs.{needs}
 use Rattle.player.proofs.reading.parse.Statement.{statement}
 use Rattle.player.proofs.reading.parse.Tie as tie
-use Rattle.player.proofs.reading.parse.Reads as reads
-use Rattle.player.proofs.reading.parse.Lts as lts
-use Rattle.player.proofs.reading.seconds.Reads as seconds-reads
-use Rattle.player.proofs.reading.timed.Reads as timed-reads
 
 returns : tie.Need-returns
 unfolding callOf

@@ -2,9 +2,6 @@ use Rattle.player.specs.Reading.{singleOf}
 use borrow.Author.Needs.{needs}
 use Rattle.player.proofs.reading.single.Statement.{statement}
 use Rattle.player.proofs.reading.single.Tie as tie
-use Rattle.player.proofs.reading.single.Reads as reads
-use Rattle.player.proofs.reading.single.Lts as lts
-use Rattle.player.proofs.reading.digit.Reads as digit-reads
 
 digit-requires : tie.Need-digit-requires
 digit-requires c κs = search needs

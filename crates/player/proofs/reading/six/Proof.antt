@@ -2,9 +2,6 @@ use Rattle.player.specs.Reading.{sixOf}
 use borrow.Author.Needs.{needs}
 use Rattle.player.proofs.reading.six.Statement.{statement}
 use Rattle.player.proofs.reading.six.Tie as tie
-use Rattle.player.proofs.reading.six.Reads as reads
-use Rattle.player.proofs.reading.six.Lts as lts
-use Rattle.player.proofs.reading.written.Reads as written-reads
 
 shared-slice-read-parted : tie.Need-shared-slice-read-parted
 shared-slice-read-parted c = search needs

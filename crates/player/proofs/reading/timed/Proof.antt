@@ -6,10 +6,6 @@ use Rattle.player.proofs.Tails.{tail-mid}
 use borrow.Author.Needs.{needs}
 use Rattle.player.proofs.reading.timed.Statement.{statement}
 use Rattle.player.proofs.reading.timed.Tie as tie
-use Rattle.player.proofs.reading.timed.Reads as reads
-use Rattle.player.proofs.reading.timed.Lts as lts
-use Rattle.player.proofs.reading.fraction.Reads as fraction-reads
-use Rattle.player.proofs.reading.verb.Reads as verb-reads
 
 returns : tie.Need-returns
 unfolding timedOf

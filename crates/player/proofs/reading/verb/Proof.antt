@@ -3,12 +3,6 @@ use Rattle.player.specs.Reading.{verbOf}
 use borrow.Author.Needs.{needs}
 use Rattle.player.proofs.reading.verb.Statement.{statement}
 use Rattle.player.proofs.reading.verb.Tie as tie
-use Rattle.player.proofs.reading.verb.Reads as reads
-use Rattle.player.proofs.reading.verb.Lts as lts
-use Rattle.player.proofs.reading.bare.Reads as bare-reads
-use Rattle.player.proofs.reading.five.Reads as five-reads
-use Rattle.player.proofs.reading.single.Reads as single-reads
-use Rattle.player.proofs.reading.six.Reads as six-reads
 
 six-requires : tie.Need-six-requires
 six-requires c κs = search needs

@@ -3,9 +3,6 @@ use Rattle.player.specs.Reading.{writtenOf}
 use borrow.Author.Needs.{needs}
 use Rattle.player.proofs.reading.written.Statement.{statement}
 use Rattle.player.proofs.reading.written.Tie as tie
-use Rattle.player.proofs.reading.written.Reads as reads
-use Rattle.player.proofs.reading.written.Lts as lts
-use Rattle.player.proofs.reading.digit.Reads as digit-reads
 
 digit-requires : tie.Need-digit-requires
 digit-requires c κs = search needs

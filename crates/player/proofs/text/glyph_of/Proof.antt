@@ -3,8 +3,6 @@ use Rattle.player.specs.Numbers.{glyph}
 use borrow.Author.Needs.{needs}
 use Rattle.player.proofs.text.glyph_of.Statement.{statement}
 use Rattle.player.proofs.text.glyph_of.Tie as tie
-use Rattle.player.proofs.text.glyph_of.Reads as reads
-use Rattle.player.proofs.text.glyph_of.Lts as lts
 
 cast-result : tie.Need-cast-result
 cast-result c = search needs

@@ -3,8 +3,6 @@ use Rattle.player.proofs.Puts.{put-one}
 use borrow.Author.Needs.{needs}
 use Rattle.player.proofs.text.put_byte.Statement.{statement}
 use Rattle.player.proofs.text.put_byte.Tie as tie
-use Rattle.player.proofs.text.put_byte.Reads as reads
-use Rattle.player.proofs.text.put_byte.Lts as lts
 
 slice-write-out : tie.Need-slice-write-out
 slice-write-out c = search needs
