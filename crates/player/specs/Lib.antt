@@ -12,3 +12,4 @@ pub mod Trace
 pub mod Parts
 pub mod TraceLaws
 pub mod SplitLaws
+pub mod Rows
