@@ -29,11 +29,6 @@ goOn (Refused n) o f = o
 abbrev pub andThen : Stepped → (Iic → Stepped) → Stepped
 andThen o f = goOn (o .ended) o f
 
--- document 01's number of how a step ended, 0 where it went through
-abbrev pub refusalOf : Ended → ℕ
-refusalOf Finished = 0
-refusalOf (Refused n) = n
-
 -- the refusal g stands before the call, 0 for none: state unchanged
 abbrev pub guarded : ℕ → Iic → Stepped → Stepped
 guarded g s o = cond (eqb g 0) o (refused g s)

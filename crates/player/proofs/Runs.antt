@@ -1,7 +1,7 @@
 -- How a run goes on, and the invariant of the loop that plays.
 -- Assumes nothing.
 use mathlib.Core.Path.{_≡_, refl, sym, ap, _∙_, subst}
-use mathlib.Core.Bool.{Bool, true, false, not, _||_}
+use mathlib.Core.Bool.{Bool, false, not, _||_}
 use mathlib.Core.List.{List, [], _∷_, _++_, append-nil, append-assoc}
 use Prim.Native.Nat.{ℕ, zero, suc, _+_, _-_, _≤_, _<_, min}
 use native.Mathlib.Nat.{add-zero, sub-zero, add-assoc}
@@ -11,10 +11,9 @@ use lib.ListN.{length, take, drop, length-append, length-drop, take-append-drop}
 use lib.Seq.{length-take-le, drop-drop, take-at, drop-at}
 use Rattle.clocks.specs.declared.Clocks.{Clocks}
 use Rattle.player.specs.declared.Player.{Player}
-use Rattle.player.specs.declared.Progress.{Progress}
 use Rattle.player.specs.declared.Answer.{Answer}
-use Rattle.player.specs.Lines.{linesFrom, linesIn, lineLength}
-use Rattle.player.specs.LineLaws.{line-next, line-none}
+use Rattle.player.specs.Lines.{linesIn, lineLength}
+use Rattle.player.specs.LineLaws.{line-next}
 use Rattle.player.specs.Calls.{answerOf}
 use Rattle.player.specs.Puts.{Put}
 use Rattle.player.specs.Answers.{textOf}

@@ -1,6 +1,5 @@
 -- Definitions: answer lines (document 01, "The trace player"): line number, refusal number or 0, value, levels, status byte, parted by tabs and
 -- closed by a newline, the last two as after the call.
-use mathlib.Core.Bool.{Bool}
 use mathlib.Core.List.{List, [], _∷_, _++_}
 use Prim.Native.Nat.{ℕ}
 use Rattle.iic.specs.declared.Pins.{Pins}

@@ -1,5 +1,5 @@
 -- Definitions: what a line does (document 01, "The trace player", "Refused because of the input"): 4, then 5, then the call's own refusal.
-use mathlib.Core.Bool.{Bool, true, false, cond}
+use mathlib.Core.Bool.{Bool, true, cond}
 use mathlib.Core.List.{List}
 use Prim.Native.Nat.{ℕ}
 use Rattle.time.specs.declared.Time.{Time}
@@ -14,7 +14,6 @@ use Rattle.iic.specs.declared.Ended.{Ended}
 use Rattle.iic.specs.declared.Ended.the-variants.{Finished, Refused}
 use Rattle.iic.specs.declared.Byte.{Byte}
 use Rattle.iic.specs.declared.Byte.the-variants as byte
-use Rattle.iic.specs.Answers.{refusalOf}
 use Rattle.iic.specs.Calls.{readOf, writeOf, inputPinsOf, setGateOf, advanceOf, deadlineOf}
 use Rattle.player.specs.declared.Verb.{Verb}
 use Rattle.player.specs.declared.Verb.the-variants.{Read, Write, Pins, Gate, Visit, Deadline as AskDeadline}

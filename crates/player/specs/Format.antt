@@ -1,6 +1,6 @@
 -- Definitions: the line of a call, by writing it (document 01, "The trace player"). A line is well formed exactly if it is `spell c` for a
 -- call c in range; `ReadingLaws` shows that the reading definition agrees, both ways.
-use mathlib.Core.Bool.{Bool, true, false, cond}
+use mathlib.Core.Bool.{Bool, cond}
 use mathlib.Core.List.{List, [], _∷_, _++_}
 use Prim.Native.Nat.{ℕ, _<_, _^_}
 use Rattle.player.specs.declared.Verb.{Verb}

@@ -1,5 +1,5 @@
 -- Definitions: the lines of a trace (document 01, "The trace player": a newline closes a line, a last one may lack it).
-use mathlib.Core.Bool.{Bool, true, false, cond}
+use mathlib.Core.Bool.{Bool, cond}
 use mathlib.Core.List.{List, [], _∷_, _++_}
 use Prim.Native.Nat.{ℕ, suc}
 use lib.Dec.{eqb}

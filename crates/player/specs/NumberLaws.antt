@@ -9,9 +9,8 @@ use native.Mathlib.Nat.{pow-suc, sub-zero}
 use native.Mathlib.Numerals.{add-one}
 use native.Mathlib.Omega.{arith}
 use lib.Dec.{ltb, eqb}
-use lib.ListN.{length, take, drop, length-append}
-use borrow.Author.Tests.{lt-ltb, le-ltb, eq-eqb, ne-eqb, ltb-true, ltb-false, eqb-true, eqb-false}
-use Rattle.player.specs.declared.reading.Scanned.{Scanned}
+use lib.ListN.{length, drop, length-append}
+use borrow.Author.Tests.{lt-ltb, le-ltb, ne-eqb, ltb-true, ltb-false, eqb-true, eqb-false}
 use Rattle.player.specs.declared.reading.Scanned.the-variants.{NoSeconds, Seconds}
 use Rattle.player.specs.Numbers.{glyph, decimalIn, hexIn}
 use Rattle.player.specs.Reading.{digitOf, closedBy, scan, secondsOf}

@@ -1,5 +1,5 @@
 -- Definitions: numbers as text (document 01, "The trace player": decimal without a needless leading zero, lower-case hexadecimal digits).
-use mathlib.Core.Bool.{Bool, true, false, cond}
+use mathlib.Core.Bool.{cond}
 use mathlib.Core.List.{List, [], _∷_, _++_}
 use Prim.Native.Nat.{ℕ, zero, suc, _+_, _/_, _%_}
 use lib.Dec.{ltb}

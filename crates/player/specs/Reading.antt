@@ -1,6 +1,6 @@
 -- Definitions: the call that a line means, by reading it from the left (document 01, "The trace player"). Contracts cite these; that they accept
 -- exactly the lines that `Format` spells is shown in `ReadingLaws`.
-use mathlib.Core.Bool.{Bool, true, false, cond, not, _&&_}
+use mathlib.Core.Bool.{cond, not, _&&_}
 use mathlib.Core.List.{List, [], _∷_}
 use Prim.Native.Nat.{ℕ, zero, suc, _+_, _-_, _*_, _^_}
 use lib.Dec.{ltb, eqb}

@@ -3,12 +3,12 @@
 -- Assumes nothing.
 use mathlib.Core.Path.{_≡_, refl}
 use mathlib.Core.Bool.{true, false}
-use mathlib.Core.List.{List, [], _∷_}
+use mathlib.Core.List.{[], _∷_}
 use Prim.Native.Nat.{ℕ, _-_, _^_}
 use Rattle.iic.specs.declared.Pins.the-variants.{NoPins, Driven}
 use Rattle.iic.specs.State.{levels}
 use Rattle.player.specs.declared.Verb.{Verb}
-use Rattle.player.specs.declared.Verb.the-variants.{Read, Write, Pins, Gate, Visit}
+use Rattle.player.specs.declared.Verb.the-variants.{Read, Write, Pins, Gate}
 use Rattle.player.specs.declared.Call.{Call}
 use Rattle.player.specs.declared.Parsed.the-variants.{Malformed}
 use Rattle.player.specs.declared.Value.the-variants.{NoValue, Byte}

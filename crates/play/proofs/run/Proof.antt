@@ -1,7 +1,7 @@
 -- `play::run` meets its contract: at most 65 bytes are held, and the buffers keep their lengths.
 -- Assumes nothing.
 use borrow.Author.Needs.{needs}
-use Prim.Native.Nat.{ℕ, _≤_, _<_, _^_}
+use Prim.Native.Nat.{_≤_, _<_, _^_}
 use mathlib.Core.Path.{_≡_}
 use lib.ListN.{length}
 use Rattle.play.proofs.run.Statement.{statement}

@@ -1,12 +1,11 @@
 -- `player::Player::play_lines` meets its contract: the invariant and its turn are those of Runs.antt.
 -- Assumes nothing.
-use mathlib.Core.Path.{_≡_, refl, ap, sym, _∙_, subst}
-use mathlib.Core.List.{List, _++_}
+use mathlib.Core.Path.{ap, sym, _∙_, subst}
+use mathlib.Core.List.{List}
 use Prim.Native.Nat.{ℕ, _+_, _-_, _≤_, _<_}
 use native.Mathlib.Omega.{arith}
 use borrow.Author.Needs.{needs}
-use lib.ListN.{length, take, drop}
-use Rattle.player.specs.Lines.{linesIn, lineLength}
+use lib.ListN.{length}
 use Rattle.player.specs.LineLaws.{line-none, lines-end}
 use Rattle.player.specs.Puts.{Put}
 use Rattle.player.specs.Answers.{textOf}

@@ -1,7 +1,7 @@
 -- `player::lines::line_end` meets its contract: the bytes from the start to i are no newline.
 -- Assumes nothing.
 use mathlib.Core.Path.{_≡_}
-use Prim.Native.Nat.{ℕ, _+_, _-_, _≤_, _<_}
+use Prim.Native.Nat.{ℕ, _+_, _-_, _≤_}
 use native.Mathlib.Omega.{arith}
 use lib.ListN.{length, drop}
 use Rattle.player.specs.Lines.{lineLength}

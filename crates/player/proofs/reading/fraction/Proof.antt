@@ -3,8 +3,8 @@
 use mathlib.Core.Path.{_≡_, refl, sym, ap, _∙_, subst}
 use Prim.Native.Nat.{ℕ, _+_, _-_, _*_, _^_, _≤_, _<_}
 use native.Mathlib.Omega.{arith}
-use lib.ListN.{length, drop}
-use Rattle.player.specs.Reading.{digitOf, hexFrom, fractionOf}
+use lib.ListN.{drop}
+use Rattle.player.specs.Reading.{hexFrom, fractionOf}
 use Rattle.player.proofs.Scans.{hex-on, hex-bad, hex-end, power-on, power-fits}
 use Rattle.player.proofs.reading.fraction.Statement.{statement}
 use Rattle.player.proofs.reading.fraction.Tie as tie

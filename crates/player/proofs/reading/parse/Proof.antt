@@ -1,8 +1,5 @@
-use mathlib.Core.Path.{_≡_, sym, ap, _∙_}
+use mathlib.Core.Path.{sym, ap, _∙_}
 use borrow.Author.Tests.{lt-ltb, le-ltb}
-use lib.ListN.{length, drop}
-use Prim.Native.Nat.{_≤_}
-use native.Mathlib.Omega.{arith}
 use Rattle.player.specs.Reading.{timedOf, callOf}
 use Rattle.player.specs.NumberLaws.{seconds-within}
 use Rattle.player.proofs.Tails.{tail-mid}

@@ -1,13 +1,11 @@
 -- `player::reading::seconds` meets its contract: what is left to read from place i, after the value n, gives the answer.
 -- Assumes nothing.
 use mathlib.Core.Path.{_≡_, refl, sym, ap, _∙_, subst}
-use mathlib.Core.Bool.{false, not, _&&_}
 use Prim.Native.Nat.{ℕ, _+_, _-_, _*_, _/_, _^_, _≤_, _<_}
 use native.Mathlib.Omega.{arith}
-use lib.Dec.{eqb}
 use lib.ListN.{length, drop}
-use Rattle.player.specs.Reading.{digitOf, scan, secondsOf}
-use Rattle.player.proofs.Scans.{byte, scan-closed, scan-needless, scan-large, scan-on, scan-none}
+use Rattle.player.specs.Reading.{scan, secondsOf}
+use Rattle.player.proofs.Scans.{scan-closed, scan-needless, scan-large, scan-on, scan-none}
 use Rattle.player.proofs.reading.seconds.Statement.{statement}
 use Rattle.player.proofs.reading.seconds.Tie as tie
 
