@@ -2,18 +2,18 @@
 pub mod machine;
 mod runs;
 mod scenes;
-mod session;
 mod states;
 mod tally;
+mod trial;
 use crate::inputs;
 use crate::options::Options;
 use machine::Machine;
-use session::Session;
 use std::time::Instant;
 use tally::Tally;
 use traffic::exact;
 use traffic::host::Host;
 use traffic::random::Random;
+use trial::Trial;
 use words::layout::{self, Set};
 
 /// Prints what was found, and returns how many differences there are.
@@ -84,8 +84,8 @@ pub fn system(set: &Set) -> exact::Clock {
 fn from_default(random: &mut Random, length: u64, tally: &mut Tally) {
     let (set, now) = new_set(random);
     let host = Host::new(random, now, system(&set));
-    if let Some(mut session) = Session::fresh(set, tally) {
-        session.play(random, host, length);
+    if let Some(mut trial) = Trial::fresh(set, tally) {
+        trial.play(random, host, length);
     }
 }
 
@@ -95,13 +95,13 @@ fn from_scene(random: &mut Random, tally: &mut Tally) {
     let clock = system(&set);
     let now = exact::edge(&clock, random.below(1000));
     let scene = random.pick(&scenes::ALL);
-    let Some(mut session) = Session::fresh(set, tally) else {
+    let Some(mut trial) = Trial::fresh(set, tally) else {
         return;
     };
-    if let Some(now) = scenes::play(&mut session, clock, now, scene) {
+    if let Some(now) = scenes::play(&mut trial, clock, now, scene) {
         let host = Host::over_state(random, now, clock);
         let length = random.below(60);
-        session.play(random, host, length);
+        trial.play(random, host, length);
     }
 }
 
@@ -114,5 +114,5 @@ fn from_made(random: &mut Random, tally: &mut Tally) {
     let state = states::random(random, &set, now);
     let host = Host::over_state(random, now, clock);
     let length = 1 + random.below(6);
-    Session::new(set, Machine::new(&state), tally::ACCEPTED, tally).play(random, host, length);
+    Trial::new(set, Machine::new(&state), tally::ACCEPTED, tally).play(random, host, length);
 }

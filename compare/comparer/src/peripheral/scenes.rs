@@ -1,11 +1,11 @@
 //! Short runs from the default into corners that a host hardly finds.
-use super::session::Session;
+use super::trial::Trial;
 use traffic::exact;
 use words::iic::{self, Call};
 use words::layout;
 
 pub struct Stage<'a, 'b> {
-    session: &'a mut Session<'b>,
+    trial: &'a mut Trial<'b>,
     clock: exact::Clock,
     begin: u128,
     now: u128,
@@ -28,8 +28,8 @@ pub const ALL: [Scene; 10] = [
 ];
 
 /// Plays a scene, and tells the time after it.
-pub fn play(session: &mut Session, clock: exact::Clock, now: u128, scene: Scene) -> Option<u128> {
-    let mut stage = Stage { session, clock, begin: now, now };
+pub fn play(trial: &mut Trial, clock: exact::Clock, now: u128, scene: Scene) -> Option<u128> {
+    let mut stage = Stage { trial, clock, begin: now, now };
     scene(&mut stage)?;
     Some(stage.now)
 }
@@ -39,7 +39,7 @@ impl Stage<'_, '_> {
         let mut args = [0; layout::ARGS];
         args[..2].copy_from_slice(&layout::halves(self.now));
         args[2..4].copy_from_slice(&operands);
-        self.session.step((call, args)).map(|_| ())
+        self.trial.step((call, args)).map(|_| ())
     }
 
     fn write(&mut self, address: u64, value: u64) -> Option<()> {
@@ -52,15 +52,15 @@ impl Stage<'_, '_> {
 
     /// Visits at the time of the half wait at that place of the state.
     fn visit(&mut self, place: usize) -> Option<()> {
-        self.now = exact::half_edge(&self.clock, self.session.state()[place + 1]);
+        self.now = exact::half_edge(&self.clock, self.trial.state()[place + 1]);
         self.call(Call::Advance, [0, 0])
     }
 
     /// Levels that pass the filter.
     fn levels(&mut self, scl: u64, sda: u64) -> Option<()> {
         self.call(Call::InputPins, [scl, sda])?;
-        while self.session.state()[iic::FILTER_WAIT] != 0 {
-            self.now = exact::edge(&self.clock, self.session.state()[iic::FILTER_WAIT + 4]);
+        while self.trial.state()[iic::FILTER_WAIT] != 0 {
+            self.now = exact::edge(&self.clock, self.trial.state()[iic::FILTER_WAIT + 4]);
             self.call(Call::Advance, [0, 0])?;
         }
         Some(())
@@ -182,7 +182,7 @@ fn extended_past_the_counts(stage: &mut Stage) -> Option<()> {
     stage.levels(0, 0)?;
     [1, 0].repeat(8).into_iter().try_for_each(|scl| {
         stage.visit(iic::CLOCK_WAIT)?;
-        let sda = stage.session.state()[iic::DRIVE + 1];
+        let sda = stage.trial.state()[iic::DRIVE + 1];
         stage.levels(scl, sda)
     })
 }

@@ -13,7 +13,7 @@ const SHOWN: u64 = 3;
 /// Calls without any deadline after which a run ends.
 const LULL: u64 = 60;
 
-pub struct Session<'a> {
+pub struct Trial<'a> {
     machine: Machine,
     sets: Sets,
     run: Run,
@@ -21,7 +21,7 @@ pub struct Session<'a> {
     tally: &'a mut Tally,
 }
 
-impl<'a> Session<'a> {
+impl<'a> Trial<'a> {
     pub fn new(set: Set, machine: Machine, origin: usize, tally: &'a mut Tally) -> Self {
         Self { run: Run::new(set, &machine), machine, sets: Sets::new(set), origin, tally }
     }
