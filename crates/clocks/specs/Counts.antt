@@ -1,4 +1,4 @@
--- Definitions: counts of 64 bits, and what follows an answer that may be refused (the Rust's `?`).
+-- Definitions: counts of 64 bits (document 01, refusal 7), and what follows an answer that may be refused (the Rust's `?`).
 use Prim.Native.Nat.{ℕ, _^_}
 use mathlib.Core.Bool.{Bool, cond}
 use lib.Dec.{ltb}

@@ -48,7 +48,7 @@ pub struct Waited {
 }
 
 // A time as a deadline.
-fn dated(edge: Moment) -> Deadline
+pub fn dated(edge: Moment) -> Deadline
     ensures { λ r. ⌜ r ≡ dated edge ⌝ }
 {
     match edge {

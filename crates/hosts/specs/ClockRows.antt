@@ -67,7 +67,7 @@ none-yet = none-before (late .system .clock) (timeOf (at 0) + 1) (lit< tt) (lit<
 
 -- a half wait is started all the same
 late-half : halfAfter (at 0) 28 late ≡ half.Made (halfWait false 29)
-unfolding Time.earlier Time.midway Time.momentOf Time.nextTime Time.sumOf Clock.afterOf Clock.edgeOf Clock.edgesBeforeOf Clock.zeroIn Clocks.hasZero Domain.domainHalfTicks Domain.domainTicks Domain.edgeOrLast Domain.halves Domain.halvesOf Domain.highBetween Domain.levelHigh Halves.halfTicks Half.halfAfter Half.sumOf State.defaultIic Hosts.start
+unfolding Time.earlier Time.midway Time.momentOf Time.nextTime Time.sumOf Clock.afterOf Clock.edgeOf Clock.edgesBeforeOf Clock.zeroIn Clocks.hasZero Counts.fits Domain.domainHalfTicks Domain.domainTicks Domain.edgeOrLast Domain.halves Domain.halvesOf Domain.highBetween Domain.levelHigh Halves.halfTicks Half.halfAfter State.defaultIic Hosts.start
 late-half = rw none-yet refl
 
 -- a wait for an edge is refused

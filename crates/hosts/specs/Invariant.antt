@@ -1,4 +1,4 @@
--- Definitions: the invariant of a host under which idle calls change nothing.
+-- Definitions: the invariant of a host under which idle calls change nothing. No paper has it: it is the conditions of `kick` in iic.rs, turned round.
 use mathlib.Core.Bool.{Bool, true, false, not, _&&_, _||_}
 use mathlib.Core.Path.{_≡_}
 use Rattle.bus.specs.Bits.{has}

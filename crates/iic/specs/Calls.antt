@@ -28,7 +28,7 @@ use Rattle.iic.specs.Kick.{kickOf}
 use Rattle.iic.specs.Setters.{setRaw, setGate}
 use Rattle.iic.specs.State.{levels, enabled, awake, synchronous}
 use Rattle.iic.specs.Waiting.{scheduleFilterOf, turnClockOf, turnMonitorOf, turnFilterOf, turnSetupOf}
-use Rattle.waits.specs.Ends.{waitEnd, halfEnd, sooner, tapOf, shortHalf}
+use Rattle.waits.specs.Ends.{waitEnd, halfEnd, sooner, tapRefusal, shortHalf}
 use Rattle.frames.specs.Parts.{progressIn}
 
 -- ## Refusals that stand before a call: 1, then 9, then 10, with the state unchanged; 0 for none
@@ -149,7 +149,7 @@ firstOf a b = cond (eqb a 0) b a
 
 -- 11, 12
 unfoldable pub waitsRefusal : Iic → ℕ
-waitsRefusal s = firstOf (tapOf (s .«filter_wait»)) (firstOf (tapOf (s .«setup_wait»)) (halvesRefusal s))
+waitsRefusal s = firstOf (tapRefusal (s .«filter_wait»)) (firstOf (tapRefusal (s .«setup_wait»)) (halvesRefusal s))
 
 unfoldable pub validateOf : Iic → Time → ℕ
 validateOf s now =

@@ -1,11 +1,12 @@
 -- Definitions: what filtered levels bring: starts and stops of the bus, the falling clock, and `filtered_edges` of iic.rs.
-use Prim.Native.Nat.{_*_}
+use Prim.Native.Nat.{_+_, _*_}
 use mathlib.Core.Bool.{Bool, true, false, not, _&&_, _||_, cond}
 use Rattle.bus.specs.declared.Levels.{Levels}
 use Rattle.bus.specs.Bits.{has, flag}
 use Rattle.bus.specs.Bus.{isStart, isStop}
 use Rattle.time.specs.declared.Time.{Time}
 use Rattle.clocks.specs.declared.Clocks.{Clocks}
+use Rattle.clocks.specs.Counts.{fits}
 use Rattle.iic.specs.declared.Iic.{Iic}
 use Rattle.iic.specs.declared.Stepped.{Stepped}
 use Rattle.frames.specs.declared.Frame.{Frame}
@@ -27,7 +28,7 @@ use Rattle.iic.specs.Shift.{loadTransmitOf, beginFrameOf, arbitrationLos
 use Rattle.iic.specs.State.{master, transmits, synchronous, conditioned, commanded, held, raise, driveScl, driveSda, unclocked}
 use Rattle.iic.specs.Waiting.{clockFrom, turnClockOf, startClockOf}
 use Rattle.frames.specs.Parts.{turned, starved, dataLevel, isData, isDone}
-use Rattle.waits.specs.Half.{sumOf, madeHalf}
+use Rattle.waits.specs.Half.{madeHalf}
 use Rattle.waits.specs.Rates.{periodOf}
 
 -- ## A stop and a start of the bus
@@ -110,7 +111,7 @@ acknowledgeOf f s =
 -- ICMR's WAIT lengthens a master's wait by two clocks
 abbrev pub longer : MaybeHalf → Iic → Stepped
 longer NoHalf s = fine s
-longer (Half w) s = clockFrom (madeHalf (w .paused) (sumOf (w .count) (4 * periodOf (s .registers .control)))) s
+longer (Half w) s = clockFrom (madeHalf (w .paused) (fits (w .count + 4 * periodOf (s .registers .control)))) s
 
 unfoldable pub insertWaitOf : Iic → Stepped
 insertWaitOf s = cond (master s && has (s .registers .mode) WAIT && not (held s)) (longer (s .«clock_wait») s) (fine s)

@@ -1,4 +1,4 @@
--- Definitions: the default, the tests on a state and its parts, and the small changes that many steps share.
+-- Definitions: the default, the tests on a state and its parts, and the small changes that many steps share (iic.rs, `Default`, `stop_shifter`).
 use Prim.Native.Nat.{ℕ, _-_}
 use mathlib.Core.Bool.{Bool, true, false, _&&_}
 use lib.Bits.{bitAnd, bitOr}

@@ -1,4 +1,4 @@
--- Definitions: how the four waits of a state start, pause and resume.
+-- Definitions: how the four waits of a state start, pause and resume (iic.rs, `schedule_filter`, `set_gate`; document 01, Registers and steps).
 use mathlib.Core.Bool.{Bool, not, _&&_, _||_, cond}
 use Rattle.bus.specs.Bus.{sameLevels}
 use Rattle.time.specs.declared.Time.{Time}

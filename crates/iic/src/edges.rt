@@ -17,13 +17,13 @@ use super::bits::TRS;
 use super::bits::WAIT;
 use bus::Levels;
 use clocks::Clocks;
+use clocks::counts::checked_add;
 use frames::Frame;
 use frames::Framing;
 use frames::Phase;
 use time::Time;
 use waits::MaybeHalf;
 use waits::half::made_half;
-use waits::half::sum_of;
 use waits::rates::period;
 
 impl Iic {
@@ -213,7 +213,7 @@ impl Iic {
             return self.fine();
         };
         let extra = 4 * (period(self.registers.control) as u64);
-        self.clock_from(made_half(w.paused, sum_of(w.count, extra)))
+        self.clock_from(made_half(w.paused, checked_add(w.count, extra)))
     }
 
     // ICMR's WAIT lengthens a master's wait by two clocks.

@@ -1,4 +1,4 @@
--- Definitions: bytes put at a place of a buffer.
+-- Definitions: bytes put at a place of a buffer (document 01, "The trace player": from the first free byte on, the rest unchanged).
 use mathlib.Core.Path.{_≡_}
 use mathlib.Core.List.{List, _++_}
 use Prim.Native.Nat.{ℕ, _+_}

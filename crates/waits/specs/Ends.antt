@@ -1,4 +1,4 @@
--- Definitions: how waits pause, resume and end.
+-- Definitions: how waits pause, resume and end (document 01, `advance` and its refusals 11 and 12; iic.rs, `set_gate`, `deadline`, `validate`).
 use Prim.Native.Nat.{ℕ, _-_, _^_}
 use mathlib.Core.Bool.{Bool, true, false, cond}
 use lib.Dec.{eqb, ltb}
@@ -74,9 +74,9 @@ sooner (deadline.Refused n) d = deadline.Refused n
 -- ## For `validate`
 
 -- document 01, 11: a wait's tap
-abbrev pub tapOf : MaybeWait → ℕ
-tapOf NoWait = 0
-tapOf (Waiting w) = waitValidate w
+abbrev pub tapRefusal : MaybeWait → ℕ
+tapRefusal NoWait = 0
+tapRefusal (Waiting w) = waitValidate w
 
 -- document 01, 12: a half count within 1023 of the top
 abbrev pub shortHalf : MaybeHalf → Bool

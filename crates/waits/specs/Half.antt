@@ -1,27 +1,24 @@
 -- Definitions: waits of half clocks (iic.rs, `HalfWait`). Sums past 64 bits are refusal 7, a time that went back is 8.
-use Prim.Native.Nat.{ℕ, _+_, _-_, _^_}
+use Prim.Native.Nat.{ℕ, _+_, _-_}
 use mathlib.Core.Bool.{Bool, true, false, cond}
-use lib.Dec.{leb, ltb}
+use lib.Dec.{leb}
 use Rattle.time.specs.declared.Time.{Time}
 use Rattle.time.specs.declared.Count.{Count}
 use Rattle.time.specs.declared.Count.the-variants as count
 use Rattle.time.specs.declared.Moment.{Moment}
-use Rattle.time.specs.declared.Moment.the-variants as moment
 use Rattle.clocks.specs.declared.Clocks.{Clocks}
 use Rattle.clocks.specs.declared.Truth.{Truth}
 use Rattle.clocks.specs.declared.Truth.the-variants as truth
 use Rattle.clocks.specs.declared.wait.Deadline.{Deadline}
 use Rattle.clocks.specs.declared.wait.Deadline.the-variants as deadline
 use Rattle.clocks.specs.Clocks.{availableOf}
+use Rattle.clocks.specs.Counts.{fits}
 use Rattle.clocks.specs.Half.{halfTicks, halfEdge}
 use Rattle.clocks.specs.Tap.{systemTap}
+use Rattle.clocks.specs.Wait.{dated}
 use Rattle.waits.specs.declared.HalfWait.{HalfWait}
 use Rattle.waits.specs.declared.NewHalf.{NewHalf}
 use Rattle.waits.specs.declared.NewHalf.the-variants as half
-
--- `checked_add`, or refusal 7
-unfoldable pub sumOf : ℕ → ℕ → Count
-sumOf a b = cond (ltb (a + b) (2 ^ 64)) (count.Of (a + b)) (count.Refused 7)
 
 -- `checked_sub`, or refusal 8
 unfoldable pub differenceOf : ℕ → ℕ → Count
@@ -29,7 +26,7 @@ differenceOf a b = cond (leb b a) (count.Of (a - b)) (count.Refused 8)
 
 -- a count and so many more
 abbrev pub further : Count → ℕ → Count
-further (count.Of t) n = sumOf t n
+further (count.Of t) n = fits (t + n)
 further (count.Refused e) n = count.Refused e
 
 -- what is left of n at a count
@@ -49,12 +46,8 @@ madeHalf p (count.Refused e) = half.Refused e
 unfoldable pub halfAfter : Time → ℕ → Clocks → NewHalf
 halfAfter now n k = madeHalf false (further (halfTicks k now) n)
 
-abbrev pub momentOf : Moment → Deadline
-momentOf (moment.At t) = deadline.At t
-momentOf (moment.Refused e) = deadline.Refused e
-
 abbrev pub whileAvailable : Truth → Moment → Deadline
-whileAvailable (truth.Is b) m = cond b (momentOf m) deadline.Never
+whileAvailable (truth.Is b) m = cond b (dated m) deadline.Never
 whileAvailable (truth.Refused e) m = deadline.Refused e
 
 -- `deadline`: never while paused or while the system clock is stopped

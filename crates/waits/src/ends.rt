@@ -1,6 +1,6 @@
 // How waits pause, resume and end.
 ghost use mathlib.Core.Path.{_≡_};
-ghost use Rattle.waits.specs.Ends.{turnHalf, newWait, turnWait, waitEnd, halfEnd, dueOf, soonerThan, sooner, isWait, isHalf, tapOf, shortHalf};
+ghost use Rattle.waits.specs.Ends.{turnHalf, newWait, turnWait, waitEnd, halfEnd, dueOf, soonerThan, sooner, isWait, isHalf, tapRefusal, shortHalf};
 use super::Due;
 use super::HalfWait;
 use super::MaybeHalf;
@@ -103,7 +103,7 @@ impl MaybeWait {
     }
 
     pub fn tap_refusal(self) -> u8
-        ensures { λ r. ⌜ r ≡ tapOf self ⌝ }
+        ensures { λ r. ⌜ r ≡ tapRefusal self ⌝ }
     {
         match self {
             MaybeWait::NoWait => 0,

@@ -1,26 +1,17 @@
 // Waits of half clocks of the system clock.
 ghost use mathlib.Core.Path.{_≡_};
-ghost use Rattle.waits.specs.Half.{sumOf, differenceOf, further, leftOf, madeHalf, halfAfter, momentOf, whileAvailable, halfDeadline, halfPause, halfResume};
+ghost use Rattle.waits.specs.Half.{differenceOf, further, leftOf, madeHalf, halfAfter, whileAvailable, halfDeadline, halfPause, halfResume};
 use super::HalfWait;
 use super::NewHalf;
 use clocks::Clocks;
 use clocks::Truth;
+use clocks::counts::checked_add;
 use clocks::tap::Tap;
 use clocks::wait::Deadline;
+use clocks::wait::dated;
 use time::Count;
 use time::Moment;
 use time::Time;
-
-// The sum, or 7 past 64 bits.
-pub fn sum_of(a: u64, b: u64) -> Count
-    ensures { λ r. ⌜ r ≡ sumOf a b ⌝ }
-{
-    if b <= 18446744073709551615 - a {
-        Count::Of(a + b)
-    } else {
-        Count::Refused(7)
-    }
-}
 
 // The difference, or 8 where it is none.
 fn difference_of(a: u64, b: u64) -> Count
@@ -37,7 +28,7 @@ fn further(at: Count, n: u64) -> Count
     ensures { λ r. ⌜ r ≡ further at n ⌝ }
 {
     match at {
-        Count::Of(t) => sum_of(t, n),
+        Count::Of(t) => checked_add(t, n),
         Count::Refused(e) => Count::Refused(e),
     }
 }
@@ -60,20 +51,11 @@ pub fn made_half(paused: bool, at: Count) -> NewHalf
     }
 }
 
-fn moment_of(at: Moment) -> Deadline
-    ensures { λ r. ⌜ r ≡ momentOf at ⌝ }
-{
-    match at {
-        Moment::At(t) => Deadline::At(t),
-        Moment::Refused(e) => Deadline::Refused(e),
-    }
-}
-
 fn while_available(available: Truth, at: Moment) -> Deadline
     ensures { λ r. ⌜ r ≡ whileAvailable available at ⌝ }
 {
     match available {
-        Truth::Is(b) => { if b { moment_of(at) } else { Deadline::Never } }
+        Truth::Is(b) => { if b { dated(at) } else { Deadline::Never } }
         Truth::Refused(e) => Deadline::Refused(e),
     }
 }
