@@ -1,16 +1,16 @@
 -- One step of reading seconds, a fraction and the end of a line, at a place of a list.
 -- Assumes nothing.
-use mathlib.Core.Path.{_≡_, sym, ap, _∙_}
-use mathlib.Core.Bool.{true, false, not, _&&_}
+use mathlib.Core.Path.{_≡_, refl, sym, ap, _∙_, subst}
+use mathlib.Core.Bool.{Bool, true, false, cond, not, _&&_}
 use mathlib.Core.List.{List, _∷_}
-use Prim.Native.Nat.{ℕ, suc, _+_, _-_, _*_, _^_, _≤_, _<_}
+use Prim.Native.Nat.{ℕ, suc, _+_, _-_, _*_, _%_, _^_, _≤_, _<_}
 use native.Mathlib.Nat.{pow-suc, pow-le-pow-right}
 use native.Mathlib.Numerals.{add-one}
 use native.Mathlib.Omega.{arith}
-use lib.Dec.{eqb}
+use lib.Dec.{ltb, eqb}
 use lib.ListN.{length, drop, getD, drop-of-length-le}
 use lib.Seq.{drop-cons}
-use borrow.Author.Tests.{lt-ltb, le-ltb, eq-eqb, ne-eqb}
+use borrow.Author.Tests.{ltb-true, ltb-false, lt-ltb, le-ltb, eq-eqb, ne-eqb}
 use Rattle.player.specs.declared.reading.Scanned.the-variants.{NoSeconds}
 use Rattle.player.specs.declared.reading.MaybeUnits.the-variants.{NoUnits, Units}
 use Rattle.player.specs.Lines.{lineLength}
@@ -54,6 +54,21 @@ module _ (l : List ℕ) (i : ℕ) (within : i < length l) where
       where
         fewer : (i : ℕ) → i < 16 → 16 - i ≡ suc (16 - (i + 1))
         fewer i h = omega arith
+
+    -- a digit more, or what is no digit, of a fraction that was read so far
+    pub hex-step : i < 16 → (fine : Bool) (d : ℕ) → d ≡ digitOf byte
+        → cond fine (hexFrom (16 - i) n (drop i l)) NoUnits ≡ cond (fine && ltb d 16) (hexFrom (16 - (i + 1)) (n * 16 + d % 16) (drop (i + 1) l)) NoUnits
+    hex-step few false d e = refl
+    hex-step few true d e = split (ltb d 16) refl
+      where
+        small : (d : ℕ) → d < 16 → d ≡ d % 16
+        small d h = omega arith
+
+        split : (t : Bool) → ltb d 16 ≡ t → hexFrom (16 - i) n (drop i l) ≡ cond t (hexFrom (16 - (i + 1)) (n * 16 + d % 16) (drop (i + 1) l)) NoUnits
+        split true h =
+            hex-on few (subst (λ (x : ℕ). x < 16) e (ltb-true d 16 h))
+            ∙ ap (λ (x : ℕ). hexFrom (16 - (i + 1)) (n * 16 + x) (drop (i + 1) l)) (sym e ∙ small d (ltb-true d 16 h))
+        split false h = hex-bad few (subst (λ (x : ℕ). 16 ≤ x) e (ltb-false d 16 h))
 
   pub end-here : byte ≡ 10 → lineLength (drop i l) ≡ 0
   unfolding lineLength

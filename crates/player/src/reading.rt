@@ -28,19 +28,12 @@ pub enum MaybeVerb {
 fn digit(b: u8) -> u8
     ensures { λ r. ⌜ (r ≡ digitOf b) × (r ≤ 16) ⌝ }
 {
-    if b < 48 {
-        return 16;
-    }
-    if b < 58 {
+    let decimal = (48 <= b) & (b < 58);
+    if decimal {
         return b - 48;
     }
-    if b < 97 {
-        return 16;
-    }
-    if b < 103 {
-        return b - 87;
-    }
-    16
+    let letter = (97 <= b) & (b < 103);
+    if letter { b - 87 } else { 16 }
 }
 
 // What the first byte that is no decimal digit makes of the seconds before it.
@@ -89,15 +82,18 @@ fn fraction(rest: &[u8]) -> MaybeUnits
 {
     let mut n = 0u64;
     let mut i = 0usize;
+    let mut fine = true;
     while i < 16 {
         let d = digit(rest[i]);
-        if 16 <= d {
-            return MaybeUnits::NoUnits;
-        }
-        n = n * 16 + d as u64;
+        fine = fine & (d < 16);
+        n = n * 16 + (d % 16) as u64;
         i += 1;
     }
-    MaybeUnits::Units(n)
+    if fine {
+        MaybeUnits::Units(n)
+    } else {
+        MaybeUnits::NoUnits
+    }
 }
 
 // A verb without operands.
