@@ -3,6 +3,7 @@ use Prim.Native.Nat.{ℕ, _+_, _*_, _/_, _%_}
 use mathlib.Core.Bool.{Bool, true, false, _&&_, _||_, cond}
 use lib.Dec.{eqb, ltb}
 use Rattle.time.specs.declared.Time.{Time}
+use Rattle.time.specs.declared.Clock.{Clock}
 use Rattle.time.specs.declared.Count.{Count}
 use Rattle.time.specs.declared.Count.the-variants.{Of, Refused}
 use Rattle.time.specs.declared.Moment.{Moment}
@@ -86,11 +87,13 @@ routedEdge k d n (ThroughW s) =
     withCount (stageEdge 8 (k .«prescaler_w» .divider) (k .«prescaler_w» .emitted) n s) (λ m. fits (m * 4)) Refused
 routedEdge k d n Direct = fits (n * d)
 
+-- the time of a tap's edge, by its source's clock
+abbrev pub edgeBy : Clocks → Clock → ℕ → Tap → Moment
+edgeBy k c n t = withCount (routedEdge k (t .divide) n (routeOf t)) (λ m. afterOf c m) Unset
+
 -- `Clocks::edge`: the divider 0 is no refusal here
 unfoldable pub tapEdge : Clocks → ℕ → Tap → Moment
-tapEdge k n t =
-    cond (hasZero k) (Unset 1)
-    (withCount (routedEdge k (t .divide) n (routeOf t)) (λ m. afterOf (sourceOf k (t .source) .clock) m) Unset)
+tapEdge k n t = cond (hasZero k) (Unset 1) (edgeBy k (sourceOf k (t .source) .clock) n t)
 
 -- `Clocks::after`
 unfoldable pub tapAfter : Clocks → Time → ℕ → Tap → Moment

@@ -1,7 +1,8 @@
 // The clock set of the chip: its sources, the prescalers behind them, the counts and edges of their outputs, and waits for edges.
 // The names are those of mcu/clocks.rs. A refusal is its number in document 01.
 ghost use mathlib.Core.Path.{_≡_};
-ghost use Rattle.clocks.specs.Clocks.{defaultFrequencies, domainAt, clockSet, newClocks, hasZero, sourceOf, routedTicks, tapTicks, routedEdge, tapEdge, tapAfter, fedBy, availableOf, routedHigh, tapHigh};
+ghost use mathlib.Core.Bool.{false};
+ghost use Rattle.clocks.specs.Clocks.{defaultFrequencies, domainAt, clockSet, newClocks, hasZero, sourceOf, routedTicks, tapTicks, routedEdge, edgeBy, tapEdge, tapAfter, fedBy, availableOf, routedHigh, tapHigh};
 ghost use Rattle.clocks.specs.Half.{halfTicks, halfEdge};
 
 pub mod counts;
@@ -134,7 +135,7 @@ impl Clocks {
         system | cpu | watch | on_chip | oscillator | subclock
     }
 
-    fn source(self, source: Source) -> Domain
+    pub(crate) fn source(self, source: Source) -> Domain
         ensures { λ r. ⌜ r ≡ sourceOf self source ⌝ }
     {
         match source {
@@ -169,6 +170,14 @@ impl Clocks {
         if zero {
             return Count::Refused(ZERO_FREQUENCY);
         }
+        self.counted(now, tap)
+    }
+
+    // The edges of a tap, in a set without a zero.
+    pub(crate) fn counted(self, now: Time, tap: Tap) -> Count
+        requires { ⌜ hasZero self ≡ false ⌝ }
+        ensures { λ r. ⌜ r ≡ tapTicks self now tap ⌝ }
+    {
         let source = tap.source;
         match self.source(source).ticks(now) {
             Count::Of(raw) => self.routed_ticks(tap.divide, raw, tap.route()),
@@ -198,8 +207,16 @@ impl Clocks {
             return Moment::Refused(ZERO_FREQUENCY);
         }
         let source = tap.source;
+        let domain = self.source(source);
+        self.edge_by(domain.clock, tick, tap)
+    }
+
+    // The time of a tap's edge, by its source's clock.
+    pub(crate) fn edge_by(self, clock: Clock, tick: u64, tap: Tap) -> Moment
+        ensures { λ r. ⌜ r ≡ edgeBy self clock tick tap ⌝ }
+    {
         match self.routed_edge(tap.divide, tick, tap.route()) {
-            Count::Of(target) => self.source(source).clock.after(target),
+            Count::Of(target) => clock.after(target),
             Count::Refused(k) => Moment::Refused(k),
         }
     }
@@ -217,7 +234,7 @@ impl Clocks {
     }
 
     // Whether the prescaler that a divider needs is running.
-    fn is_fed(self, source: Source, divide: u32) -> bool
+    pub(crate) fn is_fed(self, source: Source, divide: u32) -> bool
         ensures { λ r. ⌜ r ≡ fedBy self source divide ⌝ }
     {
         let by_s = is_within(2, 8192, divide);

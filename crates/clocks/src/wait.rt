@@ -1,5 +1,7 @@
 // A wait for a number of edges of a tap: an obligation to count edges, not a delay in seconds.
 ghost use mathlib.Core.Path.{_≡_};
+ghost use mathlib.Core.Bool.{false};
+ghost use Rattle.clocks.specs.Clocks.{hasZero};
 ghost use Rattle.clocks.specs.Wait.{waitOf, kept, dated, startedBy, startedAt, startedFor, waitAfter, edgeDeadline, stateDeadline, waitDeadline, leftAt, pausedBy, waitPause, resumedAs, waitResume, waitValidate, madeDeadline, laterTarget, laterRunning, waitLaterEdge, upcoming, beforeEnd, edgesRunning, waitEdgesBefore, isPaused, movedTo, selectedBy, waitSelect};
 ghost use Rattle.clocks.specs.Tap.{sameTap};
 ghost use Rattle.clocks.specs.declared.wait.WaitState.the-variants.{Paused};
@@ -59,15 +61,17 @@ pub fn dated(edge: Moment) -> Deadline
 
 // The time of the tap's edge of that number, while the tap is available.
 fn edge_deadline(tap: Tap, clocks: Clocks, tick: u64) -> Deadline
+    requires { ⌜ hasZero clocks ≡ false ⌝ }
     ensures { λ r. ⌜ r ≡ edgeDeadline tap clocks tick ⌝ }
 {
-    match clocks.available(tap) {
-        Truth::Is(available) => if available {
-            dated(clocks.edge(tick, tap))
-        } else {
-            Deadline::Never
-        },
-        Truth::Refused(k) => Deadline::Refused(k),
+    let source = tap.source;
+    let domain = clocks.source(source);
+    let fed = clocks.is_fed(source, tap.divide);
+    let available = domain.running & fed;
+    if available {
+        dated(clocks.edge_by(domain.clock, tick, tap))
+    } else {
+        Deadline::Never
     }
 }
 
@@ -128,6 +132,7 @@ impl ClockWait {
 
     // A running wait to the edge of that number.
     fn started_at(tap: Tap, clocks: Clocks, target: u64) -> NewWait
+        requires { ⌜ hasZero clocks ≡ false ⌝ }
         ensures { λ r. ⌜ r ≡ startedAt tap clocks target ⌝ }
     {
         let wait = ClockWait {
@@ -138,9 +143,10 @@ impl ClockWait {
     }
 
     fn started_for(now: Time, edges: u64, tap: Tap, clocks: Clocks) -> NewWait
+        requires { ⌜ hasZero clocks ≡ false ⌝ }
         ensures { λ r. ⌜ r ≡ startedFor now edges tap clocks ⌝ }
     {
-        match clocks.ticks(now, tap) {
+        match clocks.counted(now, tap) {
             Count::Of(count) => match checked_add(count, edges) {
                 Count::Of(target) => ClockWait::started_at(tap, clocks, target),
                 Count::Refused(k) => NewWait::Refused(k),

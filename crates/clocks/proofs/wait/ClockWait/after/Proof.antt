@@ -1,4 +1,5 @@
 -- `clocks::wait::ClockWait::after` meets its contract. Assumes nothing.
+use mathlib.Core.Path.{sym, _∙_}
 use Rattle.clocks.proofs.wait.ClockWait.after.Statement.{statement}
 use Rattle.clocks.specs.Wait.{waitAfter}
 use borrow.Author.Needs.{needs}
@@ -20,7 +21,7 @@ unfolding waitAfter
 returns-3 c = simp (c .if3 .taken, c .before .if2 .left, c .before .before .before .if1 .left, ← c .before .before .before .before .has-zero .ensures)
 
 started-for-requires : tie.Need-started-for-requires
-started-for-requires c κs = search needs
+started-for-requires c κs = sym (c .before .before .before .before .has-zero .ensures) ∙ c .before .before .before .if1 .left
 
 returns-4 : tie.Need-returns-4
 unfolding waitAfter

@@ -1,4 +1,5 @@
 -- `clocks::wait::ClockWait::deadline` meets its contract. Assumes nothing.
+use mathlib.Core.Path.{sym, _∙_}
 use Rattle.clocks.proofs.wait.ClockWait.deadline.Statement.{statement}
 use Rattle.clocks.specs.Wait.{waitDeadline}
 use borrow.Author.Needs.{needs}
@@ -15,7 +16,7 @@ enum-known-state : tie.Need-enum-known-state
 enum-known-state c = search needs
 
 edge-deadline-requires : tie.Need-edge-deadline-requires
-edge-deadline-requires c κs = search needs
+edge-deadline-requires c κs = sym (c .before .before .before .before .has-zero .ensures) ∙ c .before .before .before .if1 .left
 
 enum-told : tie.Need-enum-told
 enum-told c = search needs

@@ -5,7 +5,7 @@ use borrow.Author.Needs.{needs}
 use Rattle.clocks.proofs.wait.ClockWait.started_at.Tie as tie
 
 edge-deadline-requires : tie.Need-edge-deadline-requires
-edge-deadline-requires c κs = search needs
+edge-deadline-requires c κs = c .pre
 
 started-by-requires : tie.Need-started-by-requires
 started-by-requires c κs = search needs

@@ -4,8 +4,8 @@ use Rattle.clocks.specs.Wait.{startedFor}
 use borrow.Author.Needs.{needs}
 use Rattle.clocks.proofs.wait.ClockWait.started_for.Tie as tie
 
-ticks-requires : tie.Need-ticks-requires
-ticks-requires c κs = search needs
+counted-requires : tie.Need-counted-requires
+counted-requires c κs = c .pre
 
 enum-known-count : tie.Need-enum-known-count
 enum-known-count c = search needs
@@ -17,7 +17,7 @@ enum-known-target : tie.Need-enum-known-target
 enum-known-target c = search needs
 
 started-at-requires : tie.Need-started-at-requires
-started-at-requires c κs = search needs
+started-at-requires c κs = c .before .before .before .before .before .before .before .before .pre
 
 enum-known-k : tie.Need-enum-known-k
 enum-known-k c = search needs
@@ -27,21 +27,21 @@ enum-known-k-2 c = search needs
 
 returns : tie.Need-returns
 unfolding startedFor
-returns c = simp (c .started-at .ensures, c .before .before .target .given .1, ← c .before .before .before .before .checked-add .ensures, c .before .before .before .before .before .before .count .given .1, ← c .before .before .before .before .before .before .before .before .ticks .ensures)
+returns c = simp (c .started-at .ensures, c .before .before .target .given .1, ← c .before .before .before .before .checked-add .ensures, c .before .before .before .before .before .before .count .given .1, ← c .before .before .before .before .before .before .before .before .counted .ensures)
 
 returns-2 : tie.Need-returns-2
 unfolding startedFor
-returns-2 c = simp (c .before .k .given .1, ← c .before .before .before .checked-add .ensures, c .before .before .before .before .before .count .given .1, ← c .before .before .before .before .before .before .before .ticks .ensures)
+returns-2 c = simp (c .before .k .given .1, ← c .before .before .before .checked-add .ensures, c .before .before .before .before .before .count .given .1, ← c .before .before .before .before .before .before .before .counted .ensures)
 
 returns-3 : tie.Need-returns-3
 unfolding startedFor
-returns-3 c = simp (c .before .k2 .given .1, ← c .before .before .before .ticks .ensures)
+returns-3 c = simp (c .before .k2 .given .1, ← c .before .before .before .counted .ensures)
 
 pub started-for-spec : {M : Type 1} → statement M
 started-for-spec =
     tie.close
     (tie.spec
-    ticks-requires
+    counted-requires
     enum-known-count
     checked-add-requires
     enum-known-target
