@@ -38,7 +38,8 @@ pub fn sum(a: u64, b: u64) -> Wide
     Wide { high, low }
 }
 
-// The whole product of two words, from the four products of their halves, added column by column.
+// The whole product of two words, from the four products of their halves: carried up for the high word, and wrapped for the
+// low one, two forms in which the compiler sees the machine's own product.
 pub fn product(a: u64, b: u64) -> Wide
     ensures { λ r. ⌜ valueOf r ≡ a * b ⌝ }
 {
@@ -46,11 +47,15 @@ pub fn product(a: u64, b: u64) -> Wide
     let a0 = a % 0x1_0000_0000;
     let b1 = b / 0x1_0000_0000;
     let b0 = b % 0x1_0000_0000;
-    let middle = sum(a1 * b0, a0 * b1);
-    let bottom = sum(a0 * b0, middle.low % 0x1_0000_0000 * 0x1_0000_0000);
+    let bottom = a0 * b0;
+    let left = a1 * b0;
+    let right = a0 * b1;
+    let middle = left + bottom / 0x1_0000_0000;
+    let upper = right + middle % 0x1_0000_0000;
+    let across = std::num::wrapping_add_u64(left, right);
     Wide {
-        high: a1 * b1 + middle.high * 0x1_0000_0000 + middle.low / 0x1_0000_0000 + bottom.high,
-        low: bottom.low,
+        high: a1 * b1 + middle / 0x1_0000_0000 + upper / 0x1_0000_0000,
+        low: std::num::wrapping_add_u64(across % 0x1_0000_0000 * 0x1_0000_0000, bottom),
     }
 }
 

@@ -1,10 +1,12 @@
--- `words::product` meets its contract: `columns` of Numbers.antt adds the four products of the halves.
+-- `words::product` meets its contract: `whole` of Numbers.antt adds the four products of the halves.
 -- Assumes nothing.
-use Prim.Native.Nat.{ℕ, _+_, _*_, _/_, _^_, _<_}
+use mathlib.Core.Path.{ap, _∙_}
+use Prim.Native.Nat.{ℕ, _+_, _*_, _%_, _^_, _<_}
+use native.Mathlib.Nat.{le-add-right, lt-of-le-of-lt}
 use native.Mathlib.Omega.{arith}
 use mir.Syntax.{w64}
 use mir.Val.{Fits}
-use Rattle.words.proofs.Numbers.{below, columns, top-lt}
+use Rattle.words.proofs.Numbers.{below, bottom, top, middle-fits, upper-fits, top-fits, whole}
 use borrow.Author.Needs.{needs}
 use Rattle.words.proofs.product.Statement.{statement}
 use Rattle.words.proofs.product.Tie as tie
@@ -13,67 +15,60 @@ use Rattle.words.proofs.product.Tie as tie
 fits : {x y : ℕ} → x < 2 ^ 32 → y < 2 ^ 32 → Fits w64 (x * y)
 fits hx hy = record { fits = below 32 hx hy }
 
--- what the high word, and each part of it, is below
-whole : (c : tie.After-sum2) →
-    let s = c .before .before in
-    let n = s .before .args in
-    n .a / 2 ^ 32 * (n .b / 2 ^ 32) + s .sum .result .high * 2 ^ 32 + s .sum .result .low / 2 ^ 32 + c .sum2 .result .high < 2 ^ 64
-whole c =
-    let s = c .before .before in
-    top-lt (s .before .args .a) (s .before .args .b) (s .sum .result .high) (s .sum .result .low) (c .sum2 .result .high) (c .sum2 .result .low) (s .sum .ensures) (c .sum2 .ensures) (s .before .fits .a .fits) (s .before .fits .b .fits)
+mul-bottom : tie.Need-mul-bottom
+mul-bottom c = fits (omega arith) (omega arith)
 
-mul-sum : tie.Need-mul-sum
-mul-sum c = fits (omega arith) (omega arith)
+mul-left : tie.Need-mul-left
+mul-left c = fits (omega arith) (omega arith)
 
-mul-sum-2 : tie.Need-mul-sum-2
-mul-sum-2 c = fits (omega arith) (omega arith)
+mul-right : tie.Need-mul-right
+mul-right c = fits (omega arith) (omega arith)
 
-sum-requires : tie.Need-sum-requires
-sum-requires c κs = search needs
+add-middle : tie.Need-add-middle
+add-middle c = record { fits = middle-fits (c .args .a) (c .args .b) (c .fits .a .fits) (c .fits .b .fits) }
 
-mul-sum-3 : tie.Need-mul-sum-3
-mul-sum-3 c = fits (omega arith) (omega arith)
+add-upper : tie.Need-add-upper
+add-upper c = record { fits = upper-fits (c .args .a) (c .args .b) (c .fits .a .fits) (c .fits .b .fits) }
 
-mul-sum-4 : tie.Need-mul-sum-4
-mul-sum-4 c = search needs
+wrapping-add-u64-requires : tie.Need-wrapping-add-u64-requires
+wrapping-add-u64-requires c κs = search needs
 
-sum-requires-2 : tie.Need-sum-requires-2
-sum-requires-2 c κs = search needs
+mul-t13 : tie.Need-mul-t13
+mul-t13 c = fits (omega arith) (omega arith)
 
-mul-t9 : tie.Need-mul-t9
-mul-t9 c = fits (omega arith) (omega arith)
+add-t15 : tie.Need-add-t15
+add-t15 c = let s = c .before in record { fits = lt-of-le-of-lt (le-add-right _ _) (top-fits (s .args .a) (s .args .b) (s .fits .a .fits) (s .fits .b .fits)) }
 
-mul-t11 : tie.Need-mul-t11
-mul-t11 c = omega (arith, whole (c .before))
+add-t17 : tie.Need-add-t17
+add-t17 c = let s = c .before in record { fits = top-fits (s .args .a) (s .args .b) (s .fits .a .fits) (s .fits .b .fits) }
 
-add-t10 : tie.Need-add-t10
-add-t10 c = omega (arith, whole (c .before))
+mul-wrapping-add-u64 : tie.Need-mul-wrapping-add-u64
+mul-wrapping-add-u64 c = search needs
 
-add-t13 : tie.Need-add-t13
-add-t13 c = omega (arith, whole (c .before .before))
-
-add-t14 : tie.Need-add-t14
-add-t14 c = omega (arith, whole (c .before .before .before))
+wrapping-add-u64-requires-2 : tie.Need-wrapping-add-u64-requires-2
+wrapping-add-u64-requires-2 c κs = search needs
 
 returns : tie.Need-returns
 returns c =
-    let t = c .before .before .before in
-    let s = t .before .before in
-    columns (s .before .args .a) (s .before .args .b) (s .sum .result .high) (s .sum .result .low) (t .sum2 .result .high) (t .sum2 .result .low) (s .sum .ensures) (t .sum2 .ensures)
+    let w = c .wrapping-add-u642 in
+    let x = c .before .wrapping-add-u64 in
+    let a = c .before .before .args .a in
+    let b = c .before .before .args .b in
+    ap (λ (l : ℕ). top a b * 2 ^ 64 + l) (w .ensures ∙ ap (λ (n : ℕ). (n % 2 ^ 32 * 2 ^ 32 + bottom a b) % 2 ^ 64) (x .ensures)) ∙ whole a b
 
 pub product-spec : {M : Type 1} → statement M
 product-spec =
     tie.close
     (tie.spec
-    mul-sum
-    mul-sum-2
-    sum-requires
-    mul-sum-3
-    mul-sum-4
-    sum-requires-2
-    mul-t9
-    mul-t11
-    add-t10
-    add-t13
-    add-t14
+    mul-bottom
+    mul-left
+    mul-right
+    add-middle
+    add-upper
+    wrapping-add-u64-requires
+    mul-t13
+    add-t15
+    add-t17
+    mul-wrapping-add-u64
+    wrapping-add-u64-requires-2
     returns)
