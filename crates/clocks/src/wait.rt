@@ -2,9 +2,9 @@
 ghost use mathlib.Core.Path.{_≡_};
 ghost use mathlib.Core.Bool.{false};
 ghost use Rattle.clocks.specs.Clocks.{hasZero};
-ghost use Rattle.clocks.specs.Wait.{waitOf, kept, dated, startedBy, startedAt, startedFor, waitAfter, edgeDeadline, stateDeadline, waitDeadline, leftAt, pausedBy, waitPause, resumedAs, waitResume, waitValidate, madeDeadline, laterTarget, laterRunning, waitLaterEdge, upcoming, beforeEnd, edgesRunning, waitEdgesBefore, isPaused, movedTo, selectedBy, waitSelect};
+ghost use Rattle.clocks.specs.Wait.{waitOf, kept, dated, startedBy, waitAfter, edgeDeadline, stateDeadline, waitDeadline, leftAt, pausedBy, waitPause, resumedAs, waitResume, waitValidate, madeDeadline, laterTarget, laterRunning, waitLaterEdge, upcoming, beforeEnd, edgesRunning, waitEdgesBefore, isPaused, movedTo, selectedBy, waitSelect};
 ghost use Rattle.clocks.specs.Tap.{sameTap};
-ghost use Rattle.clocks.specs.declared.wait.WaitState.the-variants.{Paused};
+ghost use Rattle.clocks.specs.declared.wait.WaitState.the-variants.{Running, Paused};
 use super::Clocks;
 use super::Truth;
 use super::ZERO_DIVIDER;
@@ -131,27 +131,12 @@ impl ClockWait {
     }
 
     // A running wait to the edge of that number.
-    fn started_at(tap: Tap, clocks: Clocks, target: u64) -> NewWait
-        requires { ⌜ hasZero clocks ≡ false ⌝ }
-        ensures { λ r. ⌜ r ≡ startedAt tap clocks target ⌝ }
+    fn running_to(tap: Tap, target: u64) -> ClockWait
+        ensures { λ r. ⌜ r ≡ waitOf tap (Running target) ⌝ }
     {
-        let wait = ClockWait {
+        ClockWait {
             tap,
             state: WaitState::Running(target),
-        };
-        wait.started_by(edge_deadline(tap, clocks, target))
-    }
-
-    fn started_for(now: Time, edges: u64, tap: Tap, clocks: Clocks) -> NewWait
-        requires { ⌜ hasZero clocks ≡ false ⌝ }
-        ensures { λ r. ⌜ r ≡ startedFor now edges tap clocks ⌝ }
-    {
-        match clocks.counted(now, tap) {
-            Count::Of(count) => match checked_add(count, edges) {
-                Count::Of(target) => ClockWait::started_at(tap, clocks, target),
-                Count::Refused(k) => NewWait::Refused(k),
-            },
-            Count::Refused(k) => NewWait::Refused(k),
         }
     }
 
@@ -173,7 +158,17 @@ impl ClockWait {
                 state: WaitState::Ready(now),
             });
         }
-        ClockWait::started_for(now, edges, tap, clocks)
+        match clocks.counted(now, tap) {
+            Count::Of(count) => match checked_add(count, edges) {
+                Count::Of(target) => ClockWait::running_to(tap, target).started_by(edge_deadline(
+                    tap,
+                    clocks,
+                    target,
+                )),
+                Count::Refused(k) => NewWait::Refused(k),
+            },
+            Count::Refused(k) => NewWait::Refused(k),
+        }
     }
 
     pub fn deadline(self, clocks: Clocks) -> Deadline
