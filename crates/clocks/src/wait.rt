@@ -1,8 +1,6 @@
 // A wait for a number of edges of a tap: an obligation to count edges, not a delay in seconds.
 ghost use mathlib.Core.Path.{_≡_};
-ghost use mathlib.Core.Bool.{false};
-ghost use Rattle.clocks.specs.Clocks.{hasZero};
-ghost use Rattle.clocks.specs.Wait.{waitOf, kept, dated, startedBy, waitAfter, edgeDeadline, stateDeadline, waitDeadline, leftAt, pausedBy, waitPause, resumedAs, waitResume, waitValidate, madeDeadline, laterTarget, laterRunning, waitLaterEdge, upcoming, beforeEnd, edgesRunning, waitEdgesBefore, isPaused, movedTo, selectedBy, waitSelect};
+ghost use Rattle.clocks.specs.Wait.{waitOf, kept, dated, startedBy, waitAfter, stateDeadline, waitDeadline, leftAt, pausedBy, waitPause, resumedAs, waitResume, waitValidate, madeDeadline, laterTarget, laterRunning, waitLaterEdge, upcoming, beforeEnd, edgesRunning, waitEdgesBefore, isPaused, movedTo, selectedBy, waitSelect};
 ghost use Rattle.clocks.specs.Tap.{sameTap};
 ghost use Rattle.clocks.specs.declared.wait.WaitState.the-variants.{Running, Paused};
 use super::Clocks;
@@ -56,22 +54,6 @@ pub fn dated(edge: Moment) -> Deadline
     match edge {
         Moment::At(at) => Deadline::At(at),
         Moment::Refused(k) => Deadline::Refused(k),
-    }
-}
-
-// The time of the tap's edge of that number, while the tap is available.
-fn edge_deadline(tap: Tap, clocks: Clocks, tick: u64) -> Deadline
-    requires { ⌜ hasZero clocks ≡ false ⌝ }
-    ensures { λ r. ⌜ r ≡ edgeDeadline tap clocks tick ⌝ }
-{
-    let source = tap.source;
-    let domain = clocks.source(source);
-    let fed = clocks.is_fed(source, tap.divide);
-    let available = domain.running & fed;
-    if available {
-        dated(clocks.edge_by(domain.clock, tick, tap))
-    } else {
-        Deadline::Never
     }
 }
 
@@ -160,11 +142,10 @@ impl ClockWait {
         }
         match clocks.counted(now, tap) {
             Count::Of(count) => match checked_add(count, edges) {
-                Count::Of(target) => ClockWait::running_to(tap, target).started_by(edge_deadline(
-                    tap,
-                    clocks,
-                    target,
-                )),
+                Count::Of(target) => {
+                    let wait = ClockWait::running_to(tap, target);
+                    wait.started_by(wait.deadline(clocks))
+                }
                 Count::Refused(k) => NewWait::Refused(k),
             },
             Count::Refused(k) => NewWait::Refused(k),
@@ -180,7 +161,18 @@ impl ClockWait {
         }
         let state = self.state;
         match state {
-            WaitState::Running(target) => edge_deadline(self.tap, clocks, target),
+            WaitState::Running(target) => {
+                let tap = self.tap;
+                let source = tap.source;
+                let domain = clocks.source(source);
+                let fed = clocks.is_fed(source, tap.divide);
+                let available = domain.running & fed;
+                if available {
+                    dated(clocks.edge_by(domain.clock, target, tap))
+                } else {
+                    Deadline::Never
+                }
+            }
             WaitState::Paused(_) => Deadline::Never,
             WaitState::Ready(at) => Deadline::At(at),
         }

@@ -1,7 +1,7 @@
 -- `clocks::wait::ClockWait::after` meets its contract. Assumes nothing.
 use mathlib.Core.Path.{sym, _∙_}
 use Rattle.clocks.proofs.wait.ClockWait.after.Statement.{statement}
-use Rattle.clocks.specs.Wait.{waitAfter, startedFor, startedAt}
+use Rattle.clocks.specs.Wait.{waitAfter, startedFor, startedAt, waitDeadline}
 use borrow.Author.Needs.{needs}
 use Rattle.clocks.proofs.wait.ClockWait.after.Tie as tie
 
@@ -35,8 +35,8 @@ enum-known-target c = search needs
 running-to-requires : tie.Need-running-to-requires
 running-to-requires c κs = search needs
 
-edge-deadline-requires : tie.Need-edge-deadline-requires
-edge-deadline-requires c κs = sym (c .before .before .before .before .before .before .before .before .before .before .before .before .before .has-zero .ensures) ∙ c .before .before .before .before .before .before .before .before .before .before .before .before .if1 .left
+deadline-requires : tie.Need-deadline-requires
+deadline-requires c κs = search needs
 
 started-by-requires : tie.Need-started-by-requires
 started-by-requires c κs = search needs
@@ -48,8 +48,8 @@ enum-known-k-2 : tie.Need-enum-known-k-2
 enum-known-k-2 c = search needs
 
 returns-4 : tie.Need-returns-4
-unfolding waitAfter startedFor startedAt
-returns-4 c = simp (c .started-by .ensures, ← c .before .edge-deadline .ensures, ← c .before .before .running-to .ensures, c .before .before .before .before .target .given .1, ← c .before .before .before .before .before .before .checked-add .ensures, c .before .before .before .before .before .before .before .before .count .given .1, ← c .before .before .before .before .before .before .before .before .before .before .counted .ensures, c .before .before .before .before .before .before .before .before .before .before .before .if3 .left, c .before .before .before .before .before .before .before .before .before .before .before .before .if2 .left, c .before .before .before .before .before .before .before .before .before .before .before .before .before .before .if1 .left, ← c .before .before .before .before .before .before .before .before .before .before .before .before .before .before .before .has-zero .ensures)
+unfolding waitAfter startedFor startedAt waitDeadline
+returns-4 c = simp (c .started-by .ensures, c .before .deadline .ensures, c .before .before .running-to .ensures, c .before .before .before .before .target .given .1, ← c .before .before .before .before .before .before .checked-add .ensures, c .before .before .before .before .before .before .before .before .count .given .1, ← c .before .before .before .before .before .before .before .before .before .before .counted .ensures, c .before .before .before .before .before .before .before .before .before .before .before .if3 .left, c .before .before .before .before .before .before .before .before .before .before .before .before .if2 .left, c .before .before .before .before .before .before .before .before .before .before .before .before .before .before .if1 .left, ← c .before .before .before .before .before .before .before .before .before .before .before .before .before .before .before .has-zero .ensures)
 
 returns-5 : tie.Need-returns-5
 unfolding waitAfter startedFor
@@ -72,7 +72,7 @@ after-spec =
     checked-add-requires
     enum-known-target
     running-to-requires
-    edge-deadline-requires
+    deadline-requires
     started-by-requires
     enum-known-k
     enum-known-k-2

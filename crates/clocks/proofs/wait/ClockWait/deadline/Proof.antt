@@ -1,7 +1,7 @@
 -- `clocks::wait::ClockWait::deadline` meets its contract. Assumes nothing.
-use mathlib.Core.Path.{sym, _∙_}
 use Rattle.clocks.proofs.wait.ClockWait.deadline.Statement.{statement}
-use Rattle.clocks.specs.Wait.{waitDeadline}
+use Rattle.clocks.specs.Clocks.{availableOf, tapEdge}
+use Rattle.clocks.specs.Wait.{edgeDeadline, waitDeadline}
 use borrow.Author.Needs.{needs}
 use Rattle.clocks.proofs.wait.ClockWait.deadline.Tie as tie
 
@@ -15,8 +15,17 @@ returns c = simp (c .if1 .taken, ← c .before .has-zero .ensures)
 enum-known-state : tie.Need-enum-known-state
 enum-known-state c = search needs
 
-edge-deadline-requires : tie.Need-edge-deadline-requires
-edge-deadline-requires c κs = sym (c .before .before .before .before .has-zero .ensures) ∙ c .before .before .before .if1 .left
+source-requires : tie.Need-source-requires
+source-requires c κs = search needs
+
+is-fed-requires : tie.Need-is-fed-requires
+is-fed-requires c κs = search needs
+
+edge-by-requires : tie.Need-edge-by-requires
+edge-by-requires c κs = search needs
+
+dated-requires : tie.Need-dated-requires
+dated-requires c κs = search needs
 
 enum-told : tie.Need-enum-told
 enum-told c = search needs
@@ -25,16 +34,20 @@ enum-known-state-2 : tie.Need-enum-known-state-2
 enum-known-state-2 c = search needs
 
 returns-2 : tie.Need-returns-2
-unfolding waitDeadline
-returns-2 c = simp (c .edge-deadline .ensures, c .before .before .state .given .1, c .before .before .before .before .if1 .left, ← c .before .before .before .before .before .has-zero .ensures)
+unfolding waitDeadline edgeDeadline availableOf tapEdge
+returns-2 c = simp (c .dated .ensures, ← c .before .edge-by .ensures, c .before .before .if2 .taken, ← c .before .before .before .before .is-fed .ensures, ← c .before .before .before .before .before .source .ensures, c .before .before .before .before .before .before .before .before .state .given .1, c .before .before .before .before .before .before .before .before .before .before .if1 .left, ← c .before .before .before .before .before .before .before .before .before .before .before .has-zero .ensures)
 
 returns-3 : tie.Need-returns-3
-unfolding waitDeadline
-returns-3 c = simp (c .enum-told .given .1, c .before .before .if1 .left, ← c .before .before .before .has-zero .ensures)
+unfolding waitDeadline edgeDeadline availableOf
+returns-3 c = simp (c .if2 .left, ← c .before .before .is-fed .ensures, ← c .before .before .before .source .ensures, c .before .before .before .before .before .before .state .given .1, c .before .before .before .before .before .before .before .before .if1 .left, ← c .before .before .before .before .before .before .before .before .before .has-zero .ensures)
 
 returns-4 : tie.Need-returns-4
 unfolding waitDeadline
-returns-4 c = simp (c .before .state2 .given .1, c .before .before .before .if1 .left, ← c .before .before .before .before .has-zero .ensures)
+returns-4 c = simp (c .enum-told .given .1, c .before .before .if1 .left, ← c .before .before .before .has-zero .ensures)
+
+returns-5 : tie.Need-returns-5
+unfolding waitDeadline
+returns-5 c = simp (c .before .state2 .given .1, c .before .before .before .if1 .left, ← c .before .before .before .before .has-zero .ensures)
 
 pub deadline-spec : {M : Type 1} → statement M
 deadline-spec =
@@ -43,9 +56,13 @@ deadline-spec =
     has-zero-requires
     returns
     enum-known-state
-    edge-deadline-requires
+    source-requires
+    is-fed-requires
+    edge-by-requires
+    dated-requires
     enum-told
     enum-known-state-2
     returns-2
     returns-3
-    returns-4)
+    returns-4
+    returns-5)
