@@ -146,9 +146,8 @@ impl Player {
             }
             let answer = host.answer(&part[at..end], clocks);
             lines += 1;
+            host = answer.host;
             written += answer.write(&mut out[written..], lines);
-            let next = answer.host;
-            host = next;
             at = past(end, part.len());
         }
         Progress {

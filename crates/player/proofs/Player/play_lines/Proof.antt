@@ -64,25 +64,25 @@ add-lines : tie.Need-add-lines Inv-loop μ-loop
 add-lines c = omega (arith, c .before .before .before .before .before .if1 .left)
 
 sub-write : tie.Need-sub-write Inv-loop μ-loop
-sub-write c = let g = c .before .before .before .before .before .before .before .loop .inv in omega (arith, g .written-le, g .long)
+sub-write c = let g = c .before .before .before .before .before .before .before .before .loop .inv in omega (arith, g .written-le, g .long)
 
 part-write-start : tie.Need-part-write-start Inv-loop μ-loop
-part-write-start c = let g = c .before .before .before .before .before .before .before .loop .inv in omega (arith, g .written-le, g .long)
+part-write-start c = let g = c .before .before .before .before .before .before .before .before .loop .inv in omega (arith, g .written-le, g .long)
 
 part-write-end : tie.Need-part-write-end Inv-loop μ-loop
 part-write-end c = search needs
 
 write-requires : tie.Need-write-requires Inv-loop μ-loop
 write-requires c κs =
-    let v = c .before .before .before .before .before .before .before .before .loop in
-    subst (λ (n : ℕ). 80 ≤ n) (sym (part-long (v .written) (v .out))) (c .before .before .before .if3 .left)
+    let v = c .before .before .before .before .before .before .before .before .before .loop in
+    subst (λ (n : ℕ). 80 ≤ n) (sym (part-long (v .written) (v .out))) (c .before .before .before .before .if3 .left)
 
 add-written : tie.Need-add-written Inv-loop μ-loop
 add-written c =
     let w = c .before .before .write in
-    let v = c .before .before .before .before .before .before .before .before .before .before .before .loop in
+    let v = c .before .before .before .before .before .before .before .before .before .before .before .before .loop in
     let in-part : w .result ≤ length (v .out) - v .written = subst (λ (n : ℕ). w .result ≤ n) (part-long (v .written) (v .out)) (put-within (w .ensures) (w .kept .1 .0)) in
-    omega (arith, v .inv .long, v .inv .written-le, c .before .before .before .before .before .before .before .before .before .before .before .before .before .before .before .before .good)
+    omega (arith, v .inv .long, v .inv .written-le, c .before .before .before .before .before .before .before .before .before .before .before .before .before .before .before .before .before .good)
 
 past-requires : tie.Need-past-requires Inv-loop μ-loop
 past-requires c κs = c .before .before .before .before .before .before .before .before .before .line-end .ensures .1
@@ -96,7 +96,7 @@ loop-less c =
 
 loop-again : tie.Need-loop-again Inv-loop μ-loop
 loop-again c =
-    let w = c .before .before .before .before .write in
+    let w = c .before .before .before .write in
     let e = c .before .before .before .before .before .before .before .before .before .before .line-end in
     let v = c .before .before .before .before .before .before .before .before .before .before .before .before .before .loop in
     going-as (sym (tail-put (v .written) (v .out) (w .last .1 .0)))
