@@ -81,3 +81,11 @@ hex-none k n e = sym (ap (λ (j : ℕ). hexIn j n) e)
 pub hex-more : (k n : ℕ) → 0 < k → hexIn (k - 1) (n / 16) ++ (glyph (n % 16) ∷ []) ≡ hexIn k n
 unfolding hexIn
 hex-more k n h = sym (ap (λ (j : ℕ). hexIn j n) (back k h))
+
+-- the two digits of a byte
+pub hex-two : (n : ℕ) → n < 256 → (glyph (n / 16) ∷ glyph (n % 16) ∷ []) ≡ hexIn 2 n
+unfolding hexIn
+hex-two n h = ap (λ (d : ℕ). glyph d ∷ glyph (n % 16) ∷ []) (small n h)
+  where
+    small : (n : ℕ) → n < 256 → n / 16 ≡ n / 16 % 16
+    small n h = omega arith

@@ -10,6 +10,7 @@ use super::Answer;
 use super::Value;
 use super::text::put_byte;
 use super::text::put_decimal;
+use super::text::put_digits;
 use super::text::put_hex;
 use iic::Pins;
 use time::Time;
@@ -37,7 +38,7 @@ fn put_value(out: &mut [u8], at: usize, value: Value) -> usize
 {
     match value {
         Value::NoValue => put_byte(out, at, b'-'),
-        Value::Byte(byte) => put_hex(out, at, byte as u64, 2),
+        Value::Byte(byte) => put_digits(out, at, byte),
         Value::Bit(bit) => put_byte(out, at, bit_glyph(bit)),
         Value::Moment(time) => put_time(out, at, time),
     }
@@ -81,7 +82,7 @@ fn write_line(
     let f = put_byte(out, e, b'\t');
     let g = put_levels(out, f, pins);
     let h = put_byte(out, g, b'\t');
-    let i = put_hex(out, h, status as u64, 2);
+    let i = put_digits(out, h, status);
     put_byte(out, i, b'\n')
 }
 

@@ -48,3 +48,13 @@ pub(crate) fn put_hex(out: &mut [u8], at: usize, n: u64, k: usize) -> usize
     let next = put_hex(out, at, n / 16, k - 1);
     put_byte(out, next, glyph_of(n % 16))
 }
+
+// The two hexadecimal digits of a byte.
+pub(crate) fn put_digits(out: &mut [u8], at: usize, b: u8) -> usize
+    requires { ⌜ at + 2 ≤ length (now out) ⌝ }
+    ensures { λ r. ⌜ Put (now (out .entry)) (now (out .exit)) at r (hexIn 2 b) ⌝ }
+{
+    let n = b as u64;
+    let next = put_byte(out, at, glyph_of(n / 16));
+    put_byte(out, next, glyph_of(n % 16))
+}

@@ -15,11 +15,8 @@ put-byte-requires c κs = search needs
 enum-known-value : tie.Need-enum-known-value
 enum-known-value c = search needs
 
-cast-put-hex : tie.Need-cast-put-hex
-cast-put-hex c = search needs
-
-put-hex-requires : tie.Need-put-hex-requires
-put-hex-requires c κs = search needs
+put-digits-requires : tie.Need-put-digits-requires
+put-digits-requires c κs = search needs
 
 enum-known-value-2 : tie.Need-enum-known-value-2
 enum-known-value-2 c = search needs
@@ -46,7 +43,7 @@ same-length-2 : tie.Need-same-length-2
 same-length-2 c = search needs
 
 returns-2 : tie.Need-returns-2
-returns-2 c = simp (c .before .before .before .before .before .value .given .1) (c .before .before .put-hex .ensures)
+returns-2 c = simp (c .before .before .before .before .before .value .given .1) (c .before .before .put-digits .ensures)
 
 same-length-3 : tie.Need-same-length-3
 same-length-3 c = search needs
@@ -67,8 +64,7 @@ put-value-spec =
     enum-told
     put-byte-requires
     enum-known-value
-    cast-put-hex
-    put-hex-requires
+    put-digits-requires
     enum-known-value-2
     bit-glyph-requires
     put-byte-requires-2

@@ -43,8 +43,8 @@ at-7 c = more 2 (levels-length ((start (c .before .before .before .before .befor
 at-8 : (c : tie.After-put-byte4) → let a = start (c .before .before .before .before .before .before .before .before .before .before .before .before .before .before .before .before .before .before .before .before .before .before .before .before .before .before .before .before) .args in Row (a .out .now) (c .put-byte4 .last .0) (c .put-byte4 .result) ((((((((decimalIn 20 (a .number)) ++ (9 ∷ [])) ++ (decimalIn 3 (a .refusal))) ++ (9 ∷ [])) ++ (valueText (a .value))) ++ (9 ∷ [])) ++ (levelsText (a .pins))) ++ (9 ∷ [])) 66
 at-8 c = more 1 (omega arith) (at-7 (c .before .before .before .before)) (c .put-byte4 .ensures) (c .put-byte4 .kept .0)
 
-at-9 : (c : tie.After-put-hex) → let a = start (c .before .before .before .before .before .before .before .before .before .before .before .before .before .before .before .before .before .before .before .before .before .before .before .before .before .before .before .before .before .before .before .before) .args in Row (a .out .now) (c .put-hex .last .0) (c .put-hex .result) (((((((((decimalIn 20 (a .number)) ++ (9 ∷ [])) ++ (decimalIn 3 (a .refusal))) ++ (9 ∷ [])) ++ (valueText (a .value))) ++ (9 ∷ [])) ++ (levelsText (a .pins))) ++ (9 ∷ [])) ++ (hexIn 2 (a .status))) 68
-at-9 c = more 2 (le-of-eq (hex-length 2 ((start (c .before .before .before .before .before .before .before .before .before .before .before .before .before .before .before .before .before .before .before .before .before .before .before .before .before .before .before .before .before .before .before .before)) .args .status))) (at-8 (c .before .before .before .before)) (c .put-hex .ensures) (c .put-hex .kept .0)
+at-9 : (c : tie.After-put-digits) → let a = start (c .before .before .before .before .before .before .before .before .before .before .before .before .before .before .before .before .before .before .before .before .before .before .before .before .before .before .before .before .before .before .before .before) .args in Row (a .out .now) (c .put-digits .last .0) (c .put-digits .result) (((((((((decimalIn 20 (a .number)) ++ (9 ∷ [])) ++ (decimalIn 3 (a .refusal))) ++ (9 ∷ [])) ++ (valueText (a .value))) ++ (9 ∷ [])) ++ (levelsText (a .pins))) ++ (9 ∷ [])) ++ (hexIn 2 (a .status))) 68
+at-9 c = more 2 (le-of-eq (hex-length 2 ((start (c .before .before .before .before .before .before .before .before .before .before .before .before .before .before .before .before .before .before .before .before .before .before .before .before .before .before .before .before .before .before .before .before)) .args .status))) (at-8 (c .before .before .before .before)) (c .put-digits .ensures) (c .put-digits .kept .0)
 
 at-10 : (c : tie.After-put-byte5) → let a = start (c .before .before .before .before .before .before .before .before .before .before .before .before .before .before .before .before .before .before .before .before .before .before .before .before .before .before .before .before .before .before .before .before .before .before .before .before) .args in Row (a .out .now) (c .put-byte5 .last .0) (c .put-byte5 .result) ((((((((((decimalIn 20 (a .number)) ++ (9 ∷ [])) ++ (decimalIn 3 (a .refusal))) ++ (9 ∷ [])) ++ (valueText (a .value))) ++ (9 ∷ [])) ++ (levelsText (a .pins))) ++ (9 ∷ [])) ++ (hexIn 2 (a .status))) ++ (10 ∷ [])) 69
 at-10 c = more 1 (omega arith) (at-9 (c .before .before .before .before)) (c .put-byte5 .ensures) (c .put-byte5 .kept .0)
@@ -94,8 +94,8 @@ put-byte-requires-4 c κs =
     let l = at-7 b in
     omega (arith, l .room, l .long, start (b .before .before .before .before .before .before .before .before .before .before .before .before .before .before .before .before .before .before .before .before .before .before .before .before) .pre)
 
-put-hex-requires : tie.Need-put-hex-requires
-put-hex-requires c κs =
+put-digits-requires : tie.Need-put-digits-requires
+put-digits-requires c κs =
     let b = c .before .before .before in
     let l = at-8 b in
     omega (arith, l .room, l .long, start (b .before .before .before .before .before .before .before .before .before .before .before .before .before .before .before .before .before .before .before .before .before .before .before .before .before .before .before .before) .pre)
@@ -132,7 +132,7 @@ write-line-spec =
     put-byte-requires-3
     put-levels-requires
     put-byte-requires-4
-    put-hex-requires
+    put-digits-requires
     put-byte-requires-5
     same-length
     returns)
