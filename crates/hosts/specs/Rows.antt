@@ -21,9 +21,12 @@ use Rattle.iic.specs.Access as Access
 use Rattle.iic.specs.Calls as Iic
 use Rattle.iic.specs.Clocking as Clocking
 use Rattle.iic.specs.Kick as Kick
-use Rattle.iic.specs.Shift as Shift
 use Rattle.iic.specs.State as State
 use Rattle.iic.specs.Waiting as Waits
+use Rattle.steps.specs.Access as Registers
+use Rattle.steps.specs.Ready as Ready
+use Rattle.steps.specs.Shift as Shift
+use Rattle.steps.specs.State as Core
 use Rattle.waits.specs.Ends as Ends
 use Rattle.hosts.specs.Calls as Hosts
 use Rattle.hosts.specs.Calls.{Call, peek, read, write, inputPins, setGate, deadline, advance, pins, interrupt, interruptWithEnable, validate, Made, byValue, lentRead, lentWrite, Answer, nothing, byte}
@@ -132,5 +135,5 @@ abbrev expected : Row → List Call × Answer
 expected r = (r .left-are, r .last-says)
 
 rows-hold : map worked rows ≡ map expected rows
-unfolding Time.earlier Time.nextTime Time.sameTime Clock.edgesBeforeOf Clock.zeroIn Clocks.availableOf Clocks.fedBy Clocks.hasZero Clocks.routedTicks Clocks.sourceOf Clocks.tapTicks Domain.domainTicks Counts.fits Tap.routeOf Tap.routeS Tap.routeW Tap.stageBelow Tap.stageOf Wait.edgeDeadline Wait.leftAt Wait.pausedBy Wait.startedAt Wait.startedBy Wait.startedFor Wait.waitAfter Wait.waitDeadline Wait.waitPause Access.continuedOf Access.controlSet Access.enterResetOf Access.giveDataOf Access.peekAt Access.pullSdaOf Access.readAt Access.readDataOf Parts.redirectFrame Access.redirected Access.registerAt Access.resumedOf Access.sendOnOf Access.stopReceiveOf Access.takeControlOf Access.takenOf Access.writeAddressOf Access.writeAt Access.writeCommandOf Access.writeControlOf Access.writeDataOf Access.writeEnableOf Access.writeModeOf Access.writeResetOf Access.writeStatusOf Iic.advanceOf Iic.guardOf Iic.inputPinsOf Iic.keepStretchedOf Iic.peekOf Iic.readOf Iic.setGateOf Iic.takePinsOf Iic.turnGateOf Iic.turnWaitsOf Iic.visitOf Iic.writeOf Clocking.fireClockOf Clocking.fireFilterOf Clocking.fireMonitorOf Clocking.fireSetupOf Kick.clockFrameOf Kick.kickOf Kick.launchOf Kick.nextFrameOf Shift.beginFrameOf Shift.loadTransmitOf Shift.setHoldOf State.defaultIic State.stopShifterOf Ends.dueOf Ends.halfEnd Waits.scheduleFilterOf Waits.turnClockOf Waits.turnFilterOf Waits.turnMonitorOf Waits.turnSetupOf Ends.waitEnd Hosts.after Hosts.anyDue Hosts.idle Hosts.outcomeOf Hosts.start Demand3.left Mirror.ordered
+unfolding Time.earlier Time.nextTime Time.sameTime Clock.edgesBeforeOf Clock.zeroIn Clocks.availableOf Clocks.fedBy Clocks.hasZero Clocks.routedTicks Clocks.sourceOf Clocks.tapTicks Domain.domainTicks Counts.fits Tap.routeOf Tap.routeS Tap.routeW Tap.stageBelow Tap.stageOf Wait.edgeDeadline Wait.leftAt Wait.pausedBy Wait.startedAt Wait.startedBy Wait.startedFor Wait.waitAfter Wait.waitDeadline Wait.waitPause Registers.continuedOf Registers.controlSet Registers.enterResetOf Registers.giveDataOf Registers.peekAt Registers.pullSdaOf Access.readAt Access.readDataOf Parts.redirectFrame Registers.redirected Registers.registerAt Access.resumedOf Access.sendOnOf Registers.stopReceiveOf Registers.takeControlOf Registers.takenOf Registers.writeAddressOf Access.writeAt Access.writeCommandOf Access.writeControlOf Access.writeDataOf Registers.writeEnableOf Registers.writeModeOf Access.writeResetOf Registers.writeStatusOf Iic.advanceOf Iic.guardOf Iic.inputPinsOf Iic.keepStretchedOf Iic.peekOf Iic.readOf Iic.setGateOf Iic.takePinsOf Iic.turnGateOf Iic.turnWaitsOf Iic.visitOf Iic.writeOf Clocking.fireClockOf Clocking.fireFilterOf Clocking.fireMonitorOf Clocking.fireSetupOf Kick.clockFrameOf Kick.kickOf Kick.launchOf Ready.nextFrameOf Shift.beginFrameOf Shift.loadTransmitOf Shift.setHoldOf State.defaultIic Core.defaultCore State.stopShifterOf Core.stopCoreOf Ends.dueOf Ends.halfEnd Waits.scheduleFilterOf Waits.turnClockOf Waits.turnFilterOf Waits.turnMonitorOf Waits.turnSetupOf Ends.waitEnd Hosts.after Hosts.anyDue Hosts.idle Hosts.outcomeOf Hosts.start Demand3.left Mirror.ordered
 rows-hold = refl

@@ -1,17 +1,17 @@
 -- Definitions: how steps end and what calls answer. A refusal has document 01's number; nothing is rolled back.
 use Prim.Native.Nat.{ℕ}
-use mathlib.Core.Bool.{Bool, cond}
-use lib.Dec.{eqb}
-use Rattle.clocks.specs.declared.Truth.{Truth}
 use Rattle.clocks.specs.declared.Truth.the-variants as truth
-use Rattle.iic.specs.declared.Iic.{Iic}
-use Rattle.iic.specs.declared.Ended.{Ended}
-use Rattle.iic.specs.declared.Ended.the-variants.{Finished, Refused}
-use Rattle.iic.specs.declared.Stepped.{Stepped}
-use Rattle.iic.specs.declared.Byte.{Byte}
+use Rattle.clocks.specs.declared.Truth.{Truth}
 use Rattle.iic.specs.declared.Byte.the-variants as byte
-use Rattle.iic.specs.declared.ReadOut.{ReadOut}
+use Rattle.iic.specs.declared.Byte.{Byte}
+use Rattle.iic.specs.declared.Ended.the-variants.{Finished, Refused}
+use Rattle.iic.specs.declared.Ended.{Ended}
+use Rattle.iic.specs.declared.Iic.{Iic}
 use Rattle.iic.specs.declared.Noticed.{Noticed}
+use Rattle.iic.specs.declared.ReadOut.{ReadOut}
+use Rattle.iic.specs.declared.Stepped.{Stepped}
+use lib.Dec.{eqb}
+use mathlib.Core.Bool.{Bool, cond}
 
 -- a step that went through
 abbrev pub fine : Iic → Stepped

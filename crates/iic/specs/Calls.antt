@@ -1,47 +1,37 @@
 -- Definitions: the eleven calls. Each decides the answer and the whole next state, refused or not (document 01, demand 2).
 use Prim.Native.Nat.{ℕ}
-use mathlib.Core.Bool.{Bool, true, false, not, _&&_, _||_, cond, Bool·beq}
-use lib.Bits.{bitAnd, bitOr}
-use lib.Dec.{eqb, ltb}
-use Rattle.bus.specs.declared.Levels.{Levels}
-use Rattle.bus.specs.Bits.{has, flag}
 use Rattle.bus.specs.Bus.{sameLevels}
-use Rattle.time.specs.declared.Time.{Time}
-use Rattle.time.specs.Time.{earlier}
-use Rattle.clocks.specs.declared.Clocks.{Clocks}
-use Rattle.clocks.specs.declared.wait.Deadline.{Deadline}
-use Rattle.clocks.specs.declared.wait.Deadline.the-variants as deadline
+use Rattle.bus.specs.declared.Levels.{Levels}
 use Rattle.clocks.specs.Clocks.{hasZero}
-use Rattle.iic.specs.declared.Iic.{Iic}
-use Rattle.iic.specs.declared.Stepped.{Stepped}
-use Rattle.iic.specs.declared.ReadOut.{ReadOut}
-use Rattle.iic.specs.declared.Noticed.{Noticed}
-use Rattle.iic.specs.declared.Pins.{Pins}
-use Rattle.iic.specs.declared.Pins.the-variants.{NoPins, Driven}
-use Rattle.iic.specs.declared.EighthFall.{EighthFall}
-use Rattle.iic.specs.declared.EighthFall.the-variants.{NoFall, FellAt}
-use Rattle.iic.specs.Access.{registerAt, peekAt, readAt, writeAt}
-use Rattle.iic.specs.Answers.{fine, guarded, andThen, answered, noticed}
-use Rattle.iic.specs.Bits.{NAKIE, NACKF, STOP, AL}
-use Rattle.iic.specs.Clocking.{fireFilterOf, fireSetupOf, fireMonitorOf, fireClockOf}
+use Rattle.clocks.specs.declared.Clocks.{Clocks}
+use Rattle.clocks.specs.declared.wait.Deadline.the-variants as deadline
+use Rattle.clocks.specs.declared.wait.Deadline.{Deadline}
+use Rattle.iic.specs.Access.{readAt, writeAt}
+use Rattle.iic.specs.Answers.{andThen, answered, fine, guarded, noticed}
+use Rattle.iic.specs.Clocking.{fireClockOf, fireFilterOf, fireMonitorOf, fireSetupOf}
 use Rattle.iic.specs.Kick.{kickOf}
-use Rattle.iic.specs.Setters.{setRaw, setGate}
-use Rattle.iic.specs.State.{levels, enabled, awake, synchronous}
-use Rattle.iic.specs.Waiting.{scheduleFilterOf, turnClockOf, turnMonitorOf, turnFilterOf, turnSetupOf}
-use Rattle.waits.specs.Ends.{waitEnd, halfEnd, sooner, tapRefusal, shortHalf}
-use Rattle.frames.specs.Parts.{progressIn}
+use Rattle.iic.specs.State.{onCore}
+use Rattle.iic.specs.Waiting.{scheduleFilterOf, turnClockOf, turnFilterOf, turnMonitorOf, turnSetupOf}
+use Rattle.iic.specs.declared.Iic.{Iic}
+use Rattle.iic.specs.declared.Noticed.{Noticed}
+use Rattle.iic.specs.declared.Pins.the-variants.{Driven, NoPins}
+use Rattle.iic.specs.declared.Pins.{Pins}
+use Rattle.iic.specs.declared.ReadOut.{ReadOut}
+use Rattle.iic.specs.declared.Stepped.{Stepped}
+use Rattle.steps.specs.Access.{peekAt, registerAt}
+use Rattle.steps.specs.Checks.{fellBy, halvesRefusal, interruptWith, progressHolds, rangesHold}
+use Rattle.steps.specs.Filter.{observes}
+use Rattle.steps.specs.Setters.{setGate, setRaw}
+use Rattle.steps.specs.State.{awake, enabled, levels}
+use Rattle.time.specs.declared.Time.{Time}
+use Rattle.waits.specs.Ends.{halfEnd, sooner, tapRefusal, waitEnd}
+use lib.Dec.{eqb}
+use mathlib.Core.Bool.{Bool, Bool·beq, _&&_, cond, false, not}
 
 -- ## Refusals that stand before a call: 1, then 9, then 10, with the state unchanged; 0 for none
 
--- document 01, 9: a count above 7, or mode bits outside c0
-abbrev pub rangesHold : Iic → Bool
-rangesHold s = ltb (s .registers .count) 8 && eqb (bitAnd (s .registers .mode) 0x3f) 0
-
-abbrev pub progressHolds : Iic → Bool
-progressHolds s = progressIn (s .frame)
-
 abbrev pub guardBy : Bool → Iic → ℕ
-guardBy zero s = cond zero 1 (cond (not (rangesHold s)) 9 (cond (not (progressHolds s)) 10 0))
+guardBy zero s = cond zero 1 (cond (not (rangesHold (s .core))) 9 (cond (not (progressHolds (s .core))) 10 0))
 
 unfoldable pub guardOf : Iic → Clocks → ℕ
 guardOf s k = guardBy (hasZero k) s
@@ -49,7 +39,7 @@ guardOf s k = guardBy (hasZero k) s
 -- ## Registers
 
 unfoldable pub peekOf : Iic → ℕ → ℕ
-peekOf s a = peekAt (registerAt a) s
+peekOf s a = peekAt (registerAt a) (s .core)
 
 unfoldable pub readOf : Iic → ℕ → Time → Clocks → ReadOut
 readOf s a now k = answered (guarded (guardOf s k) s (readAt (registerAt a) now k s)) (peekOf s a)
@@ -61,24 +51,20 @@ writeOf s a value now k = guarded (guardOf s k) s (writeAt (registerAt a) value 
 
 -- iic.rs, `input_pins`
 unfoldable pub takePinsOf : Levels → Time → Clocks → Iic → Stepped
-takePinsOf given now k s = cond (sameLevels (s .lines .raw) given) (fine s) (scheduleFilterOf now k (setRaw given s))
-
--- whether the change reaches the peripheral beyond the levels as given
-abbrev pub observes : Iic → Levels → Bool
-observes s given = not (sameLevels (s .lines .raw) given) && awake s
+takePinsOf given now k s = cond (sameLevels (s .core .lines .raw) given) (fine s) (scheduleFilterOf now k (onCore (setRaw given) s))
 
 unfoldable pub inputPinsOf : Iic → Bool → Bool → Time → Clocks → Noticed
 inputPinsOf s scl sda now k =
-    noticed (guarded (guardOf s k) s (takePinsOf (levels scl sda) now k s)) (observes s (levels scl sda))
+    noticed (guarded (guardOf s k) s (takePinsOf (levels scl sda) now k s)) (observes (s .core) (levels scl sda))
 
 abbrev pub pinsOf : Iic → Pins
-pinsOf s = cond (enabled s) (Driven (s .lines .drive)) NoPins
+pinsOf s = cond (enabled (s .core)) (Driven (s .core .lines .drive)) NoPins
 
 -- ## The gate
 
 -- a wait that a stretched clock paused stays paused
 unfoldable pub keepStretchedOf : Bool → Time → Clocks → Iic → Stepped
-keepStretchedOf gate now k s = cond (gate && s .flags .«synchronized_hold») (turnClockOf false now k s) (fine s)
+keepStretchedOf gate now k s = cond (gate && s .core .flags .«synchronized_hold») (turnClockOf false now k s) (fine s)
 
 unfoldable pub turnWaitsOf : Bool → Time → Clocks → Iic → Stepped
 turnWaitsOf gate now k s =
@@ -91,7 +77,7 @@ gateTurned gate now k s =
 
 -- iic.rs, `set_gate`
 unfoldable pub turnGateOf : Bool → Time → Clocks → Iic → Stepped
-turnGateOf gate now k s = cond (Bool·beq (s .flags .gate) gate) (fine s) (gateTurned gate now k (setGate gate s))
+turnGateOf gate now k s = cond (Bool·beq (s .core .flags .gate) gate) (fine s) (gateTurned gate now k (onCore (setGate gate) s))
 
 unfoldable pub setGateOf : Iic → Bool → Time → Clocks → Stepped
 setGateOf s gate now k = guarded (guardOf s k) s (turnGateOf gate now k s)
@@ -101,17 +87,17 @@ setGateOf s gate now k = guarded (guardOf s k) s (turnGateOf gate now k s)
 -- the earliest of filter, clock, monitor and setup, refused at the first that is refused
 unfoldable pub earliestOf : Iic → Clocks → Deadline
 earliestOf s k =
-    sooner (waitEnd (s .«filter_wait») k) (sooner (halfEnd (s .«clock_wait») k)
-    (sooner (halfEnd (s .«monitor_wait») k) (waitEnd (s .«setup_wait») k)))
+    sooner (waitEnd (s .«filter_wait») k) (sooner (halfEnd (s .core .«clock_wait») k)
+    (sooner (halfEnd (s .core .«monitor_wait») k) (waitEnd (s .«setup_wait») k)))
 
 -- none while off
 unfoldable pub deadlineOf : Iic → Clocks → Deadline
-deadlineOf s k = cond (hasZero k) (deadline.Refused 1) (cond (awake s) (earliestOf s k) deadline.Never)
+deadlineOf s k = cond (hasZero k) (deadline.Refused 1) (cond (awake (s .core)) (earliestOf s k) deadline.Never)
 
 -- a visit: filter, setup, monitor, clock, each looked at after the one before has acted
 unfoldable pub visitOf : Time → Clocks → Iic → Stepped
 visitOf now k s =
-    cond (awake s)
+    cond (awake (s .core))
     (andThen (andThen (andThen (andThen (fireFilterOf now k s) (fireSetupOf now k)) (fireMonitorOf now k)) (fireClockOf now k)) (kickOf now k))
     (fine s)
 
@@ -120,28 +106,11 @@ advanceOf s now k = guarded (guardOf s k) s (visitOf now k s)
 
 -- ## Interrupts
 
--- NACKF asks for nothing in synchronous mode
-abbrev pub nackMask : Iic → ℕ
-nackMask s = bitOr AL (flag (not (synchronous s)) NACKF)
-
-abbrev pub interruptBy : Iic → ℕ → Bool
-interruptBy s enable =
-    has (bitAnd (s .registers .status) enable) 0xe0
-    || not (synchronous s) && has (bitAnd (s .registers .status) enable) STOP
-    || has enable NAKIE && has (s .registers .status) (nackMask s)
-
 -- with further enables that the host retained
 abbrev pub interruptWithEnableOf : Iic → ℕ → Bool
-interruptWithEnableOf s retained = interruptBy s (bitOr (s .registers .enable) retained)
+interruptWithEnableOf s retained = interruptWith (s .core) retained
 
 -- ## `validate`: 9, 10, 11, 12, or 0
-
-abbrev pub fellBy : EighthFall → Time → Bool
-fellBy NoFall now = true
-fellBy (FellAt t) now = not (earlier now t)
-
-abbrev pub halvesRefusal : Iic → ℕ
-halvesRefusal s = cond (shortHalf (s .«clock_wait») && shortHalf (s .«monitor_wait»)) 0 12
 
 -- the first of two refusals
 abbrev pub firstOf : ℕ → ℕ → ℕ
@@ -149,8 +118,8 @@ firstOf a b = cond (eqb a 0) b a
 
 -- 11, 12
 unfoldable pub waitsRefusal : Iic → ℕ
-waitsRefusal s = firstOf (tapRefusal (s .«filter_wait»)) (firstOf (tapRefusal (s .«setup_wait»)) (halvesRefusal s))
+waitsRefusal s = firstOf (tapRefusal (s .«filter_wait»)) (firstOf (tapRefusal (s .«setup_wait»)) (halvesRefusal (s .core)))
 
 unfoldable pub validateOf : Iic → Time → ℕ
 validateOf s now =
-    cond (not (rangesHold s && fellBy (s .«eighth_fall») now)) 9 (cond (not (progressHolds s)) 10 (waitsRefusal s))
+    cond (not (rangesHold (s .core) && fellBy (s .core .«eighth_fall») now)) 9 (cond (not (progressHolds (s .core))) 10 (waitsRefusal s))

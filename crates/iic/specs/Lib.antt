@@ -1,9 +1,6 @@
-pub mod Bits
-pub mod Setters
 pub mod State
 pub mod Answers
 pub mod Waiting
-pub mod Shift
 pub mod Kick
 pub mod Edges
 pub mod Clocking

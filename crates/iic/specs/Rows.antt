@@ -1,26 +1,29 @@
 -- Laws: the register rows of document 01 that are starred, as one table with one fact. They begin at the default.
 use Prim.Native.Nat.{ℕ}
-use mathlib.Core.Bool.{Bool, true, false}
+use Rattle.bus.specs.Bits.{flag}
+use Rattle.clocks.specs.Clocks.{hasZero}
+use Rattle.clocks.specs.declared.Clocks.{Clocks}
+use Rattle.frames.specs.Mirror.{mirrorOf, ordered}
+use Rattle.frames.specs.declared.Framing.the-variants.{InFrame}
+use Rattle.frames.specs.declared.Phase.the-variants.{Data}
+use Rattle.iic.specs.Access.{readAt, sendOnOf, writeAt, writeControlOf, writeDataOf}
+use Rattle.iic.specs.Answers.{guarded}
+use Rattle.iic.specs.Calls.{guardBy, guardOf, peekOf, pinsOf, readOf, writeOf}
+use Rattle.iic.specs.Kick.{kickOf}
+use Rattle.iic.specs.State.{defaultIic, stopShifterOf}
+use Rattle.iic.specs.declared.Iic.{Iic}
+use Rattle.iic.specs.declared.Pins.the-variants.{Driven, NoPins}
+use Rattle.iic.specs.declared.Pins.{Pins}
+use Rattle.steps.specs.Access.{controlSet, giveDataOf, peekAt, redirected, registerAt, takeControlOf, writeEnableOf, writeModeOf, writeStatusOf}
+use Rattle.steps.specs.Setters.{setAddress, setFrame}
+use Rattle.steps.specs.Shift.{addressedOf, lastBitOf, matchedOf, risingDataOf, risingOf, selectOf, whenLostOf}
+use Rattle.steps.specs.State.{defaultCore, stopCoreOf}
+use Rattle.steps.specs.declared.Core.{Core}
+use Rattle.time.specs.declared.Time.{Time}
+use Rattle.waits.specs.Rates.{periodOf, rate}
+use mathlib.Core.Bool.{Bool, false, true}
 use mathlib.Core.List.{List, [], _∷_, map}
 use mathlib.Core.Path.{_≡_, refl, subst, sym}
-use Rattle.bus.specs.Bits.{flag}
-use Rattle.time.specs.declared.Time.{Time}
-use Rattle.clocks.specs.declared.Clocks.{Clocks}
-use Rattle.clocks.specs.Clocks.{hasZero}
-use Rattle.iic.specs.declared.Iic.{Iic}
-use Rattle.iic.specs.declared.Pins.{Pins}
-use Rattle.iic.specs.declared.Pins.the-variants.{NoPins, Driven}
-use Rattle.frames.specs.declared.Phase.the-variants.{Data}
-use Rattle.frames.specs.declared.Framing.the-variants.{InFrame}
-use Rattle.iic.specs.Access.{registerAt, peekAt, readAt, writeAt, controlSet, redirected, takeControlOf, writeControlOf, writeModeOf, writeEnableOf, writeStatusOf, giveDataOf, sendOnOf, writeDataOf}
-use Rattle.iic.specs.Answers.{guarded}
-use Rattle.iic.specs.Calls.{guardBy, guardOf, peekOf, readOf, writeOf, pinsOf}
-use Rattle.iic.specs.Kick.{kickOf}
-use Rattle.iic.specs.Setters.{setAddress, setFrame}
-use Rattle.iic.specs.Shift.{risingOf, risingDataOf, whenLostOf, lastBitOf, addressedOf, matchedOf, selectOf}
-use Rattle.iic.specs.State.{defaultIic, stopShifterOf}
-use Rattle.frames.specs.Mirror.{mirrorOf, ordered}
-use Rattle.waits.specs.Rates.{rate, periodOf}
 
 -- what a row shows, and what document 01 has
 pub record Row : Type 0 where
@@ -36,9 +39,9 @@ drives NoPins = 0
 drives (Driven l) = 1
 
 -- seven bits of an address byte are in
-abbrev addressed : Iic
+abbrev addressed : Core
 addressed =
-    setAddress 0xa0 (setFrame (InFrame (record { shift = 0x50; remaining = 1; phase = Data; address = true; transmit = false; loaded = true; last = false })) defaultIic)
+    setAddress 0xa0 (setFrame (InFrame (record { shift = 0x50; remaining = 1; phase = Data; address = true; transmit = false; loaded = true; last = false })) defaultCore)
 
 -- the rows, by what a write of a byte and a read leave
 unfoldable pub rowsOf : (ℕ → ℕ → Iic → Iic) → (ℕ → Iic → Iic) → List Row
@@ -78,5 +81,5 @@ module _ (now : Time) (k : Clocks) where
 
   -- every row shows what document 01 has, over any clock set without a zero, at any time
   pub rows-hold : hasZero k ≡ false → AllHold rows
-  unfolding rowsOf registerAt peekAt readAt writeAt controlSet redirected takeControlOf writeControlOf writeModeOf writeEnableOf writeStatusOf giveDataOf sendOnOf writeDataOf guardOf peekOf readOf writeOf kickOf mirrorOf ordered risingOf risingDataOf whenLostOf lastBitOf addressedOf matchedOf selectOf defaultIic stopShifterOf rate periodOf
+  unfolding rowsOf registerAt peekAt readAt writeAt controlSet redirected takeControlOf writeControlOf writeModeOf writeEnableOf writeStatusOf giveDataOf sendOnOf writeDataOf guardOf peekOf readOf writeOf kickOf mirrorOf ordered risingOf risingDataOf whenLostOf lastBitOf addressedOf matchedOf selectOf defaultCore defaultIic stopCoreOf stopShifterOf rate periodOf
   rows-hold free = subst (λ (z : Bool). AllHold (rowsBy z)) (sym free) refl

@@ -1,35 +1,36 @@
 -- Definitions: how the four waits of a state start, pause and resume (iic.rs, `schedule_filter`, `set_gate`; document 01, Registers and steps).
-use mathlib.Core.Bool.{Bool, not, _&&_, _||_, cond}
-use Rattle.bus.specs.Bus.{sameLevels}
-use Rattle.time.specs.declared.Time.{Time}
-use Rattle.clocks.specs.declared.Clocks.{Clocks}
-use Rattle.clocks.specs.declared.wait.NewWait.{NewWait}
-use Rattle.clocks.specs.declared.wait.NewWait.the-variants as wait
 use Rattle.clocks.specs.Tap.{systemTap}
 use Rattle.clocks.specs.Wait.{waitAfter}
-use Rattle.iic.specs.declared.Iic.{Iic}
-use Rattle.waits.specs.declared.NewHalf.{NewHalf}
-use Rattle.waits.specs.declared.NewHalf.the-variants as half
-use Rattle.waits.specs.declared.MaybeWait.{MaybeWait}
-use Rattle.waits.specs.declared.MaybeWait.the-variants.{NoWait, Waiting}
-use Rattle.waits.specs.declared.MaybeHalf.{MaybeHalf}
-use Rattle.waits.specs.declared.MaybeHalf.the-variants.{NoHalf, Half}
-use Rattle.iic.specs.declared.Stepped.{Stepped}
+use Rattle.clocks.specs.declared.Clocks.{Clocks}
+use Rattle.clocks.specs.declared.wait.NewWait.the-variants as wait
+use Rattle.clocks.specs.declared.wait.NewWait.{NewWait}
 use Rattle.iic.specs.Answers.{fine, refused}
-use Rattle.iic.specs.Setters.{setFilterWait, setClockWait, setMonitorWait, setSetupWait}
-use Rattle.iic.specs.State.{awake}
+use Rattle.iic.specs.State.{onCore, setFilterWait, setSetupWait}
+use Rattle.iic.specs.declared.Iic.{Iic}
+use Rattle.iic.specs.declared.Stepped.{Stepped}
+use Rattle.steps.specs.Filter.{unsettled}
+use Rattle.steps.specs.Setters.{setClockWait, setMonitorWait}
+use Rattle.steps.specs.State.{awake}
+use Rattle.time.specs.declared.Time.{Time}
 use Rattle.waits.specs.Ends.{isWait, turnHalf, turnWait}
 use Rattle.waits.specs.Half.{halfAfter}
-use Rattle.waits.specs.Rates.{periodOf, monitorHalves, setupCycles}
+use Rattle.waits.specs.Rates.{monitorHalves, periodOf, setupCycles}
+use Rattle.waits.specs.declared.MaybeHalf.the-variants.{Half, NoHalf}
+use Rattle.waits.specs.declared.MaybeHalf.{MaybeHalf}
+use Rattle.waits.specs.declared.MaybeWait.the-variants.{NoWait, Waiting}
+use Rattle.waits.specs.declared.MaybeWait.{MaybeWait}
+use Rattle.waits.specs.declared.NewHalf.the-variants as half
+use Rattle.waits.specs.declared.NewHalf.{NewHalf}
+use mathlib.Core.Bool.{Bool, _&&_, cond, not}
 
 -- ## Starting
 
 abbrev pub clockFrom : NewHalf → Iic → Stepped
-clockFrom (half.Made w) s = fine (setClockWait (Half w) s)
+clockFrom (half.Made w) s = fine (onCore (setClockWait (Half w)) s)
 clockFrom (half.Refused n) s = refused n s
 
 abbrev pub monitorFrom : NewHalf → Iic → Stepped
-monitorFrom (half.Made w) s = fine (setMonitorWait (Half w) s)
+monitorFrom (half.Made w) s = fine (onCore (setMonitorWait (Half w)) s)
 monitorFrom (half.Refused n) s = refused n s
 
 abbrev pub filterFrom : NewWait → Iic → Stepped
@@ -42,19 +43,17 @@ setupFrom (wait.Refused n) s = refused n s
 
 -- half a clock from now on
 unfoldable pub startClockOf : Time → Clocks → Iic → Stepped
-startClockOf now k s = clockFrom (halfAfter now (periodOf (s .registers .control)) k) s
+startClockOf now k s = clockFrom (halfAfter now (periodOf (s .core .registers .control)) k) s
 
 unfoldable pub startMonitorOf : Time → Clocks → Iic → Stepped
-startMonitorOf now k s = monitorFrom (halfAfter now (monitorHalves (s .registers .control)) k) s
+startMonitorOf now k s = monitorFrom (halfAfter now (monitorHalves (s .core .registers .control)) k) s
 
 unfoldable pub startSetupOf : Time → Clocks → Iic → Stepped
-startSetupOf now k s = setupFrom (waitAfter now (setupCycles (s .registers .control)) (systemTap 1) k) s
+startSetupOf now k s = setupFrom (waitAfter now (setupCycles (s .core .registers .control)) (systemTap 1) k) s
 
 -- iic.rs, `schedule_filter`: a level is still on its way through the filter
 abbrev pub wantsFilter : Iic → Bool
-wantsFilter s =
-    awake s && not (isWait (s .«filter_wait»))
-    && (not (sameLevels (s .lines .raw) (s .lines .latch)) || not (sameLevels (s .lines .latch) (s .lines .filtered)))
+wantsFilter s = awake (s .core) && not (isWait (s .«filter_wait»)) && unsettled (s .core)
 
 unfoldable pub scheduleFilterOf : Time → Clocks → Iic → Stepped
 scheduleFilterOf now k s = cond (wantsFilter s) (filterFrom (waitAfter now 1 (systemTap 1) k) s) (fine s)
@@ -66,14 +65,14 @@ turnClockIn gate now k NoHalf s = fine s
 turnClockIn gate now k (Half w) s = clockFrom (turnHalf gate now k w) s
 
 unfoldable pub turnClockOf : Bool → Time → Clocks → Iic → Stepped
-turnClockOf gate now k s = turnClockIn gate now k (s .«clock_wait») s
+turnClockOf gate now k s = turnClockIn gate now k (s .core .«clock_wait») s
 
 abbrev pub turnMonitorIn : Bool → Time → Clocks → MaybeHalf → Iic → Stepped
 turnMonitorIn gate now k NoHalf s = fine s
 turnMonitorIn gate now k (Half w) s = monitorFrom (turnHalf gate now k w) s
 
 unfoldable pub turnMonitorOf : Bool → Time → Clocks → Iic → Stepped
-turnMonitorOf gate now k s = turnMonitorIn gate now k (s .«monitor_wait») s
+turnMonitorOf gate now k s = turnMonitorIn gate now k (s .core .«monitor_wait») s
 
 abbrev pub turnFilterIn : Bool → Time → Clocks → MaybeWait → Iic → Stepped
 turnFilterIn gate now k NoWait s = fine s

@@ -1,5 +1,6 @@
 // How steps end, and what follows a step that went through.
 ghost use mathlib.Core.Path.{_≡_};
+ghost use Rattle.iic.specs.State.{setCore};
 ghost use Rattle.iic.specs.Answers.{fine, refused, answered, noticed, byteOf, truthOf};
 use super::Byte;
 use super::Ended;
@@ -8,6 +9,7 @@ use super::Noticed;
 use super::ReadOut;
 use super::Stepped;
 use clocks::Truth;
+use steps::Core;
 
 impl Iic {
     pub(crate) fn fine(self) -> Stepped
@@ -17,6 +19,12 @@ impl Iic {
             ended: Ended::Finished,
             state: self,
         }
+    }
+
+    pub(crate) fn finished_with(self, core: Core) -> Stepped
+        ensures { λ r. ⌜ r ≡ fine (setCore core self) ⌝ }
+    {
+        self.with_core(core).fine()
     }
 
     pub(crate) fn refused(self, refusal: u8) -> Stepped

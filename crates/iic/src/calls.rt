@@ -1,24 +1,19 @@
 // The eleven calls of the peripheral's host, each with its answer and the next state.
 ghost use mathlib.Core.Path.{_≡_};
 ghost use Rattle.iic.specs.Answers.{guarded, andThen};
-ghost use Rattle.iic.specs.Access.{registerAt, readAt};
-ghost use Rattle.iic.specs.Calls.{rangesHold, progressHolds, guardOf, peekOf, readOf, writeOf, takePinsOf, observes, inputPinsOf, pinsOf, keepStretchedOf, turnWaitsOf, gateTurned, turnGateOf, setGateOf, earliestOf, deadlineOf, visitOf, advanceOf, interruptBy, interruptWithEnableOf, fellBy, halvesRefusal, firstOf, waitsRefusal, validateOf};
-use super::EighthFall;
+ghost use Rattle.iic.specs.Access.{readAt};
+ghost use Rattle.steps.specs.Access.{registerAt};
+ghost use Rattle.iic.specs.Calls.{guardOf, peekOf, readOf, writeOf, takePinsOf, inputPinsOf, pinsOf, keepStretchedOf, turnWaitsOf, gateTurned, turnGateOf, setGateOf, earliestOf, deadlineOf, visitOf, advanceOf, interruptWithEnableOf, firstOf, waitsRefusal, validateOf};
 use super::Ended;
 use super::Iic;
 use super::Noticed;
 use super::Pins;
 use super::ReadOut;
-use super::Register;
 use super::Stepped;
-use super::bits::AL;
-use super::bits::FS;
-use super::bits::NACKF;
-use super::bits::NAKIE;
-use super::bits::STOP;
 use bus::Levels;
 use clocks::Clocks;
 use clocks::wait::Deadline;
+use steps::Register;
 use time::Time;
 use waits::ends::sooner;
 
@@ -30,31 +25,7 @@ fn first_of(a: u8, b: u8) -> u8
     if none { b } else { a }
 }
 
-impl EighthFall {
-    fn fell_by(self, now: Time) -> bool
-        ensures { λ r. ⌜ r ≡ fellBy self now ⌝ }
-    {
-        match self {
-            EighthFall::NoFall => true,
-            EighthFall::FellAt(t) => !now.before(t),
-        }
-    }
-}
-
 impl Iic {
-    fn ranges_hold(self) -> bool
-        ensures { λ r. ⌜ r ≡ rangesHold self ⌝ }
-    {
-        (self.registers.count < 8) & (self.registers.mode & 0x3f == 0)
-    }
-
-    fn progress(self) -> bool
-        ensures { λ r. ⌜ r ≡ progressHolds self ⌝ }
-    {
-        let frame = self.frame;
-        frame.progress_holds()
-    }
-
     // The refusal that stands before a call, 0 for none.
     fn guard(self, clocks: Clocks) -> u8
         ensures { λ r. ⌜ r ≡ guardOf self clocks ⌝ }
@@ -62,10 +33,10 @@ impl Iic {
         if clocks.has_zero() {
             return 1;
         }
-        if !self.ranges_hold() {
+        if !self.core.ranges_hold() {
             return 9;
         }
-        if !self.progress() {
+        if !self.core.progress() {
             return 10;
         }
         0
@@ -75,7 +46,7 @@ impl Iic {
     pub fn peek(self, address: u16) -> u8
         ensures { λ r. ⌜ r ≡ peekOf self address ⌝ }
     {
-        self.peek_at(Register::at(address))
+        self.core.peek_at(Register::at(address))
     }
 
     fn read_step(self, address: u16, now: Time, clocks: Clocks) -> Stepped
@@ -84,10 +55,9 @@ impl Iic {
         let refusal = self.guard(clocks);
         let free = refusal == 0;
         if free {
-            self.read_at(Register::at(address), now, clocks)
-        } else {
-            self.refused(refusal)
+            return self.read_at(Register::at(address), now, clocks);
         }
+        self.refused(refusal)
     }
 
     pub fn read(self, address: u16, now: Time, clocks: Clocks) -> ReadOut
@@ -103,23 +73,22 @@ impl Iic {
         let refusal = self.guard(clocks);
         let free = refusal == 0;
         if free {
-            self.write_at(Register::at(address), value, now, clocks)
-        } else {
-            self.refused(refusal)
+            return self.write_at(Register::at(address), value, now, clocks);
         }
+        self.refused(refusal)
     }
 
-    fn take_pins(mut self, given: Levels, now: Time, clocks: Clocks) -> Stepped
+    fn take_pins(self, given: Levels, now: Time, clocks: Clocks) -> Stepped
         ensures { λ r. ⌜ r ≡ takePinsOf given now clocks self ⌝ }
     {
-        let lines = self.lines;
+        let core = self.core;
+        let lines = core.lines;
         let raw = lines.raw;
         if bus::same_levels(raw, given) {
             return self.fine();
         }
-        self.lines.raw.scl = given.scl;
-        self.lines.raw.sda = given.sda;
-        self.schedule_filter(now, clocks)
+        self.with_core(core.take_levels(given))
+            .schedule_filter(now, clocks)
     }
 
     fn pins_step(self, given: Levels, now: Time, clocks: Clocks) -> Stepped
@@ -128,18 +97,9 @@ impl Iic {
         let refusal = self.guard(clocks);
         let free = refusal == 0;
         if free {
-            self.take_pins(given, now, clocks)
-        } else {
-            self.refused(refusal)
+            return self.take_pins(given, now, clocks);
         }
-    }
-
-    fn observes(self, given: Levels) -> bool
-        ensures { λ r. ⌜ r ≡ observes self given ⌝ }
-    {
-        let lines = self.lines;
-        let raw = lines.raw;
-        !bus::same_levels(raw, given) & self.awake()
+        self.refused(refusal)
     }
 
     // The levels of the lines, as given.
@@ -147,7 +107,7 @@ impl Iic {
         ensures { λ r. ⌜ r ≡ inputPinsOf self scl sda now clocks ⌝ }
     {
         let given = Levels { scl, sda };
-        let value = self.observes(given);
+        let value = self.core.observes(given);
         self.pins_step(given, now, clocks).noticed(value)
     }
 
@@ -155,24 +115,23 @@ impl Iic {
     pub fn pins(self) -> Pins
         ensures { λ r. ⌜ r ≡ pinsOf self ⌝ }
     {
-        let lines = self.lines;
+        let core = self.core;
+        let lines = core.lines;
         let drive = lines.drive;
-        if self.enabled() {
-            Pins::Driven(drive)
-        } else {
-            Pins::NoPins
+        if core.enabled() {
+            return Pins::Driven(drive);
         }
+        Pins::NoPins
     }
 
     fn keep_stretched(self, gate: bool, now: Time, clocks: Clocks) -> Stepped
         ensures { λ r. ⌜ r ≡ keepStretchedOf gate now clocks self ⌝ }
     {
-        let stays = gate & self.flags.synchronized_hold;
+        let stays = gate & self.core.flags.synchronized_hold;
         if stays {
-            self.turn_clock(false, now, clocks)
-        } else {
-            self.fine()
+            return self.turn_clock(false, now, clocks);
         }
+        self.fine()
     }
 
     fn turn_waits(self, gate: bool, now: Time, clocks: Clocks) -> Stepped
@@ -199,11 +158,11 @@ impl Iic {
     fn turn_gate(mut self, gate: bool, now: Time, clocks: Clocks) -> Stepped
         ensures { λ r. ⌜ r ≡ turnGateOf gate now clocks self ⌝ }
     {
-        let same = self.flags.gate == gate;
+        let same = self.core.flags.gate == gate;
         if same {
             return self.fine();
         }
-        self.flags.gate = gate;
+        self.core.flags.gate = gate;
         self.gate_turned(gate, now, clocks)
     }
 
@@ -214,18 +173,18 @@ impl Iic {
         let refusal = self.guard(clocks);
         let free = refusal == 0;
         if free {
-            self.turn_gate(gate, now, clocks)
-        } else {
-            self.refused(refusal)
+            return self.turn_gate(gate, now, clocks);
         }
+        self.refused(refusal)
     }
 
     fn earliest(self, clocks: Clocks) -> Deadline
         ensures { λ r. ⌜ r ≡ earliestOf self clocks ⌝ }
     {
+        let core = self.core;
         let filter_wait = self.filter_wait;
-        let clock_wait = self.clock_wait;
-        let monitor_wait = self.monitor_wait;
+        let clock_wait = core.clock_wait;
+        let monitor_wait = core.monitor_wait;
         let setup_wait = self.setup_wait;
         let later = sooner(monitor_wait.half_end(clocks), setup_wait.end(clocks));
         sooner(
@@ -241,17 +200,16 @@ impl Iic {
         if clocks.has_zero() {
             return Deadline::Refused(1);
         }
-        if self.awake() {
-            self.earliest(clocks)
-        } else {
-            Deadline::Never
+        if self.core.awake() {
+            return self.earliest(clocks);
         }
+        Deadline::Never
     }
 
     fn visit(self, now: Time, clocks: Clocks) -> Stepped
         ensures { λ r. ⌜ r ≡ visitOf now clocks self ⌝ }
     {
-        if self.awake() {
+        if self.core.awake() {
             return self.fire_filter(now, clocks)
                 .then_fire_setup(now, clocks)
                 .then_fire_monitor(now, clocks)
@@ -268,21 +226,9 @@ impl Iic {
         let refusal = self.guard(clocks);
         let free = refusal == 0;
         if free {
-            self.visit(now, clocks)
-        } else {
-            self.refused(refusal)
+            return self.visit(now, clocks);
         }
-    }
-
-    fn interrupt_by(self, enable: u8) -> bool
-        ensures { λ r. ⌜ r ≡ interruptBy self enable ⌝ }
-    {
-        let sync = self.registers.address & FS != 0;
-        let shown = self.registers.status & enable;
-        let mask = AL | bus::flag(!sync, NACKF);
-        (shown & 0xe0 != 0)
-            | (!sync & (shown & STOP != 0))
-            | ((enable & NAKIE != 0) & (self.registers.status & mask != 0))
+        self.refused(refusal)
     }
 
     // Whether an interrupt is asked for.
@@ -296,16 +242,7 @@ impl Iic {
     pub fn interrupt_with_enable(self, retained: u8) -> bool
         ensures { λ r. ⌜ r ≡ interruptWithEnableOf self retained ⌝ }
     {
-        self.interrupt_by(self.registers.enable | retained)
-    }
-
-    fn halves_refusal(self) -> u8
-        ensures { λ r. ⌜ r ≡ halvesRefusal self ⌝ }
-    {
-        let clock_wait = self.clock_wait;
-        let monitor_wait = self.monitor_wait;
-        let short = clock_wait.is_short() & monitor_wait.is_short();
-        if short { 0 } else { 12 }
+        self.core.interrupt_with_enable(retained)
     }
 
     fn waits_refusal(self) -> u8
@@ -313,7 +250,7 @@ impl Iic {
     {
         let filter_wait = self.filter_wait;
         let setup_wait = self.setup_wait;
-        let rest = first_of(setup_wait.tap_refusal(), self.halves_refusal());
+        let rest = first_of(setup_wait.tap_refusal(), self.core.halves_refusal());
         first_of(filter_wait.tap_refusal(), rest)
     }
 
@@ -321,12 +258,13 @@ impl Iic {
     pub fn validate(self, now: Time) -> u8
         ensures { λ r. ⌜ r ≡ validateOf self now ⌝ }
     {
-        let eighth_fall = self.eighth_fall;
-        let sound = self.ranges_hold() & eighth_fall.fell_by(now);
+        let core = self.core;
+        let eighth_fall = core.eighth_fall;
+        let sound = core.ranges_hold() & eighth_fall.fell_by(now);
         if !sound {
             return 9;
         }
-        if !self.progress() {
+        if !core.progress() {
             return 10;
         }
         self.waits_refusal()
@@ -338,10 +276,9 @@ impl Stepped {
         ensures { λ r. ⌜ r ≡ andThen self (keepStretchedOf gate now clocks) ⌝ }
     {
         let ended = self.ended;
-        let state = self.state;
-        match ended {
-            Ended::Finished => state.keep_stretched(gate, now, clocks),
-            Ended::Refused(_) => self,
-        }
+        let Ended::Finished = ended else {
+            return self;
+        };
+        self.state.keep_stretched(gate, now, clocks)
     }
 }

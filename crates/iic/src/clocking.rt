@@ -1,111 +1,66 @@
 // What each of the four waits brings when it fires.
 ghost use mathlib.Core.Path.{_≡_};
 ghost use Rattle.iic.specs.Answers.{fine, andThen};
-ghost use Rattle.iic.specs.Clocking.{monitorStepOf, toggleOf, stopReleased, clockStepOf, passed, filterPassOf, filterFiresOf, fireFilterOf, fireSetupOf, stretchOf, fireMonitorOf, fireClockOf};
-ghost use Rattle.iic.specs.Setters.{setSynchronizedHold};
+ghost use Rattle.iic.specs.Clocking.{monitorStepOf, toggleOf, clockStepOf, filterFiresOf, fireFilterOf, fireSetupOf, stretchOf, fireMonitorOf, fireClockOf};
+ghost use Rattle.iic.specs.State.{onCore};
+ghost use Rattle.steps.specs.Setters.{setSynchronizedHold};
 ghost use mathlib.Core.Bool.{true};
-use super::Condition;
 use super::Ended;
 use super::Iic;
 use super::Stepped;
 use clocks::Clocks;
-use frames::Framing;
 use time::Time;
 use waits::Due;
 use waits::MaybeHalf;
 use waits::MaybeWait;
 use waits::ends::due;
 
-// A level passes the filter when two successive clocks see it.
-fn passed(raw: bool, latch: bool, filtered: bool) -> bool
-    ensures { λ r. ⌜ r ≡ passed raw latch filtered ⌝ }
-{
-    let twice = raw == latch;
-    if twice { raw } else { filtered }
-}
-
 impl Iic {
     fn monitor_step(self, now: Time, clocks: Clocks) -> Stepped
         ensures { λ r. ⌜ r ≡ monitorStepOf now clocks self ⌝ }
     {
-        if self.lines.drive.scl {
+        if self.core.lines.drive.scl {
             return self.start_monitor(now, clocks);
         }
-        self.with_monitor_wait(MaybeHalf::NoHalf).fine()
+        self.finished_with(self.core.with_monitor_wait(MaybeHalf::NoHalf))
     }
 
     fn toggle(self, now: Time, clocks: Clocks) -> Stepped
         ensures { λ r. ⌜ r ≡ toggleOf now clocks self ⌝ }
     {
-        let clocks_bits = self.master() & !self.held();
+        let clocks_bits = self.core.master() & !self.core.held();
         if clocks_bits {
-            return self.drive_scl(!self.lines.drive.scl)
-                .start_clock(now, clocks)
+            let level = !self.core.lines.drive.scl;
+            return self.clock_with(self.core.drive_scl(level), now, clocks)
                 .then_monitor_step(now, clocks);
         }
         self.fine()
-    }
-
-    fn stop_released(mut self) -> Iic
-        ensures { λ r. ⌜ r ≡ stopReleased self ⌝ }
-    {
-        self.lines.drive.sda = true;
-        self.flags.receive_enabled = false;
-        self.with_frame(Framing::NoFrame)
-            .with_condition(Condition::StopDetect)
     }
 
     // The clock's wait has ended.
     fn clock_step(self, now: Time, clocks: Clocks) -> Stepped
         ensures { λ r. ⌜ r ≡ clockStepOf now clocks self ⌝ }
     {
-        let condition = self.condition;
-        match condition {
-            Condition::NoCondition => self.toggle(now, clocks),
-            Condition::StartRelease => self.drive_scl(true)
-                .with_condition(Condition::StartHigh)
-                .fine(),
-            Condition::StartHigh => self.fine(),
-            Condition::StartHold => self.drive_scl(false)
-                .with_condition(Condition::NoCondition)
-                .start_clock(now, clocks),
-            Condition::StopLow => self.drive_scl(true)
-                .with_condition(Condition::StopHigh)
-                .fine(),
-            Condition::StopHigh => self.fine(),
-            Condition::StopRelease => self.stop_released().fine(),
-            Condition::StopDetect => self.fine(),
+        let core = self.core;
+        if !core.conditioned() {
+            return self.toggle(now, clocks);
         }
-    }
-
-    fn filter_pass(mut self) -> Iic
-        ensures { λ r. ⌜ r ≡ filterPassOf self ⌝ }
-    {
-        let scl = passed(
-            self.lines.raw.scl,
-            self.lines.latch.scl,
-            self.lines.filtered.scl,
-        );
-        let sda = passed(
-            self.lines.raw.sda,
-            self.lines.latch.sda,
-            self.lines.filtered.sda,
-        );
-        self.lines.filtered.scl = scl;
-        self.lines.filtered.sda = sda;
-        let raw_scl = self.lines.raw.scl;
-        let raw_sda = self.lines.raw.sda;
-        self.lines.latch.scl = raw_scl;
-        self.lines.latch.sda = raw_sda;
-        self.with_filter_wait(MaybeWait::NoWait)
+        let next = core.clock_condition();
+        let condition = core.condition;
+        if condition.is_start_hold() {
+            return self.clock_with(next, now, clocks);
+        }
+        self.finished_with(next)
     }
 
     fn filter_fires(self, now: Time, clocks: Clocks) -> Stepped
         ensures { λ r. ⌜ r ≡ filterFiresOf now clocks self ⌝ }
     {
-        let lines = self.lines;
+        let core = self.core;
+        let lines = core.lines;
         let old = lines.filtered;
-        self.filter_pass()
+        self.with_core(core.filter_pass())
+            .with_filter_wait(MaybeWait::NoWait)
             .filtered_edges(old, now, clocks)
             .then_schedule_filter(now, clocks)
     }
@@ -130,8 +85,7 @@ impl Iic {
         let ends = due(setup_wait.end(clocks), now);
         match ends {
             Due::Now => self.with_setup_wait(MaybeWait::NoWait)
-                .drive_scl(true)
-                .fine(),
+                .finished_with(self.core.drive_scl(true)),
             Due::NotNow => self.fine(),
             Due::Refused(n) => self.refused(n),
         }
@@ -141,7 +95,7 @@ impl Iic {
     fn stretch(self, now: Time, clocks: Clocks) -> Stepped
         ensures { λ r. ⌜ r ≡ stretchOf now clocks self ⌝ }
     {
-        if self.lines.filtered.scl {
+        if self.core.lines.filtered.scl {
             return self.fine();
         }
         self.turn_clock(false, now, clocks).then_stretched()
@@ -150,10 +104,11 @@ impl Iic {
     fn fire_monitor(self, now: Time, clocks: Clocks) -> Stepped
         ensures { λ r. ⌜ r ≡ fireMonitorOf now clocks self ⌝ }
     {
-        let monitor_wait = self.monitor_wait;
+        let core = self.core;
+        let monitor_wait = core.monitor_wait;
         let ends = due(monitor_wait.half_end(clocks), now);
         match ends {
-            Due::Now => self.with_monitor_wait(MaybeHalf::NoHalf)
+            Due::Now => self.with_core(core.with_monitor_wait(MaybeHalf::NoHalf))
                 .stretch(now, clocks),
             Due::NotNow => self.fine(),
             Due::Refused(n) => self.refused(n),
@@ -163,10 +118,11 @@ impl Iic {
     fn fire_clock(self, now: Time, clocks: Clocks) -> Stepped
         ensures { λ r. ⌜ r ≡ fireClockOf now clocks self ⌝ }
     {
-        let clock_wait = self.clock_wait;
+        let core = self.core;
+        let clock_wait = core.clock_wait;
         let ends = due(clock_wait.half_end(clocks), now);
         match ends {
-            Due::Now => self.with_clock_wait(MaybeHalf::NoHalf)
+            Due::Now => self.with_core(core.with_clock_wait(MaybeHalf::NoHalf))
                 .clock_step(now, clocks),
             Due::NotNow => self.fine(),
             Due::Refused(n) => self.refused(n),
@@ -179,57 +135,51 @@ impl Stepped {
         ensures { λ r. ⌜ r ≡ andThen self (monitorStepOf now clocks) ⌝ }
     {
         let ended = self.ended;
-        let state = self.state;
-        match ended {
-            Ended::Finished => state.monitor_step(now, clocks),
-            Ended::Refused(_) => self,
-        }
+        let Ended::Finished = ended else {
+            return self;
+        };
+        self.state.monitor_step(now, clocks)
     }
 
     fn then_stretched(self) -> Stepped
-        ensures { λ r. ⌜ r ≡ andThen self (λ u. fine (setSynchronizedHold true u)) ⌝ }
+        ensures { λ r. ⌜ r ≡ andThen self (λ u. fine (onCore (setSynchronizedHold true) u)) ⌝ }
     {
         let ended = self.ended;
+        let Ended::Finished = ended else {
+            return self;
+        };
         let mut state = self.state;
-        match ended {
-            Ended::Finished => {
-                state.flags.synchronized_hold = true;
-                state.fine()
-            }
-            Ended::Refused(_) => self,
-        }
+        state.core.flags.synchronized_hold = true;
+        state.fine()
     }
 
     pub(crate) fn then_fire_setup(self, now: Time, clocks: Clocks) -> Stepped
         ensures { λ r. ⌜ r ≡ andThen self (fireSetupOf now clocks) ⌝ }
     {
         let ended = self.ended;
-        let state = self.state;
-        match ended {
-            Ended::Finished => state.fire_setup(now, clocks),
-            Ended::Refused(_) => self,
-        }
+        let Ended::Finished = ended else {
+            return self;
+        };
+        self.state.fire_setup(now, clocks)
     }
 
     pub(crate) fn then_fire_monitor(self, now: Time, clocks: Clocks) -> Stepped
         ensures { λ r. ⌜ r ≡ andThen self (fireMonitorOf now clocks) ⌝ }
     {
         let ended = self.ended;
-        let state = self.state;
-        match ended {
-            Ended::Finished => state.fire_monitor(now, clocks),
-            Ended::Refused(_) => self,
-        }
+        let Ended::Finished = ended else {
+            return self;
+        };
+        self.state.fire_monitor(now, clocks)
     }
 
     pub(crate) fn then_fire_clock(self, now: Time, clocks: Clocks) -> Stepped
         ensures { λ r. ⌜ r ≡ andThen self (fireClockOf now clocks) ⌝ }
     {
         let ended = self.ended;
-        let state = self.state;
-        match ended {
-            Ended::Finished => state.fire_clock(now, clocks),
-            Ended::Refused(_) => self,
-        }
+        let Ended::Finished = ended else {
+            return self;
+        };
+        self.state.fire_clock(now, clocks)
     }
 }

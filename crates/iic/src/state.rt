@@ -1,22 +1,8 @@
-// The default state, its parts set anew, and the tests on it.
+// The default state, and its parts set anew.
 ghost use mathlib.Core.Path.{_≡_};
-ghost use Rattle.iic.specs.Setters.{setFrame, setCondition, setCommand, setHold, setEighthFall, setFilterWait, setClockWait, setMonitorWait, setSetupWait};
-ghost use Rattle.iic.specs.State.{defaultIic, enabled, master, transmits, synchronous, awake, framed, conditioned, commanded, held, isTransmitHold, raise, driveScl, driveSda, unclocked, stopShifterOf};
-use super::Command;
-use super::Condition;
-use super::EighthFall;
-use super::Flags;
-use super::Hold;
+ghost use Rattle.iic.specs.State.{defaultIic, setCore, setFilterWait, setSetupWait, stopShifterOf};
 use super::Iic;
-use super::Lines;
-use super::Registers;
-use super::bits::FS;
-use super::bits::ICE;
-use super::bits::MST;
-use super::bits::TRS;
-use bus::Levels;
-use frames::Framing;
-use waits::MaybeHalf;
+use steps::Core;
 use waits::MaybeWait;
 
 impl Iic {
@@ -24,82 +10,17 @@ impl Iic {
     pub fn new() -> Iic
         ensures { λ r. ⌜ r ≡ defaultIic ⌝ }
     {
-        let high = Levels {
-            scl: true,
-            sda: true,
-        };
         Iic {
-            registers: Registers {
-                control: 0,
-                mode: 0,
-                count: 0,
-                enable: 0,
-                status: 0,
-                seen: 0,
-                address: 0,
-                tdr: 0xff,
-                rdr: 0xff,
-            },
-            lines: Lines {
-                drive: high,
-                raw: high,
-                latch: high,
-                filtered: high,
-            },
-            flags: Flags {
-                busy: false,
-                reset: false,
-                gate: false,
-                synchronized_hold: false,
-                selected: false,
-                completed: false,
-                receive_enabled: false,
-                receive_stopped: false,
-                stale_release: false,
-            },
-            frame: Framing::NoFrame,
-            condition: Condition::NoCondition,
-            command: Command::NoCommand,
-            hold: Hold::NoHold,
-            eighth_fall: EighthFall::NoFall,
+            core: Core::new(),
             filter_wait: MaybeWait::NoWait,
-            clock_wait: MaybeHalf::NoHalf,
-            monitor_wait: MaybeHalf::NoHalf,
             setup_wait: MaybeWait::NoWait,
         }
     }
 
-    pub(crate) fn with_frame(self, frame: Framing) -> Iic
-        ensures { λ r. ⌜ r ≡ setFrame frame self ⌝ }
+    pub(crate) fn with_core(self, core: Core) -> Iic
+        ensures { λ r. ⌜ r ≡ setCore core self ⌝ }
     {
-        Iic { frame, ..self }
-    }
-
-    pub(crate) fn with_condition(self, condition: Condition) -> Iic
-        ensures { λ r. ⌜ r ≡ setCondition condition self ⌝ }
-    {
-        Iic { condition, ..self }
-    }
-
-    pub(crate) fn with_command(self, command: Command) -> Iic
-        ensures { λ r. ⌜ r ≡ setCommand command self ⌝ }
-    {
-        Iic { command, ..self }
-    }
-
-    pub(crate) fn with_hold(self, hold: Hold) -> Iic
-        ensures { λ r. ⌜ r ≡ setHold hold self ⌝ }
-    {
-        Iic { hold, ..self }
-    }
-
-    pub(crate) fn with_eighth_fall(self, fall: EighthFall) -> Iic
-        ensures { λ r. ⌜ r ≡ setEighthFall fall self ⌝ }
-    {
-        Iic {
-            eighth_fall: fall,
-            ..self
-        }
+        Iic { core, ..self }
     }
 
     pub(crate) fn with_filter_wait(self, wait: MaybeWait) -> Iic
@@ -107,24 +28,6 @@ impl Iic {
     {
         Iic {
             filter_wait: wait,
-            ..self
-        }
-    }
-
-    pub(crate) fn with_clock_wait(self, wait: MaybeHalf) -> Iic
-        ensures { λ r. ⌜ r ≡ setClockWait wait self ⌝ }
-    {
-        Iic {
-            clock_wait: wait,
-            ..self
-        }
-    }
-
-    pub(crate) fn with_monitor_wait(self, wait: MaybeHalf) -> Iic
-        ensures { λ r. ⌜ r ≡ setMonitorWait wait self ⌝ }
-    {
-        Iic {
-            monitor_wait: wait,
             ..self
         }
     }
@@ -138,147 +41,14 @@ impl Iic {
         }
     }
 
-    // Neither of the two half waits.
-    pub(crate) fn unclocked(self) -> Iic
-        ensures { λ r. ⌜ r ≡ unclocked self ⌝ }
-    {
-        Iic {
-            clock_wait: MaybeHalf::NoHalf,
-            monitor_wait: MaybeHalf::NoHalf,
-            ..self
-        }
-    }
-
-    pub(crate) fn raise(mut self, flags: u8) -> Iic
-        ensures { λ r. ⌜ r ≡ raise flags self ⌝ }
-    {
-        let status = self.registers.status | flags;
-        self.registers.status = status;
-        self
-    }
-
-    pub(crate) fn drive_scl(mut self, level: bool) -> Iic
-        ensures { λ r. ⌜ r ≡ driveScl level self ⌝ }
-    {
-        self.lines.drive.scl = level;
-        self
-    }
-
-    pub(crate) fn drive_sda(mut self, level: bool) -> Iic
-        ensures { λ r. ⌜ r ≡ driveSda level self ⌝ }
-    {
-        self.lines.drive.sda = level;
-        self
-    }
-
-    pub(crate) fn enabled(self) -> bool
-        ensures { λ r. ⌜ r ≡ enabled self ⌝ }
-    {
-        self.registers.control & ICE != 0
-    }
-
-    pub(crate) fn master(self) -> bool
-        ensures { λ r. ⌜ r ≡ master self ⌝ }
-    {
-        self.registers.control & MST != 0
-    }
-
-    pub(crate) fn transmit(self) -> bool
-        ensures { λ r. ⌜ r ≡ transmits self ⌝ }
-    {
-        self.registers.control & TRS != 0
-    }
-
-    pub(crate) fn synchronous(self) -> bool
-        ensures { λ r. ⌜ r ≡ synchronous self ⌝ }
-    {
-        self.registers.address & FS != 0
-    }
-
-    // Enabled and clocked.
-    pub(crate) fn awake(self) -> bool
-        ensures { λ r. ⌜ r ≡ awake self ⌝ }
-    {
-        self.flags.gate & (self.registers.control & ICE != 0)
-    }
-
-    pub(crate) fn framed(self) -> bool
-        ensures { λ r. ⌜ r ≡ framed self ⌝ }
-    {
-        let frame = self.frame;
-        match frame {
-            Framing::NoFrame => false,
-            Framing::InFrame(_) => true,
-        }
-    }
-
-    pub(crate) fn conditioned(self) -> bool
-        ensures { λ r. ⌜ r ≡ conditioned self ⌝ }
-    {
-        let condition = self.condition;
-        match condition {
-            Condition::NoCondition => false,
-            Condition::StartRelease => true,
-            Condition::StartHigh => true,
-            Condition::StartHold => true,
-            Condition::StopLow => true,
-            Condition::StopHigh => true,
-            Condition::StopRelease => true,
-            Condition::StopDetect => true,
-        }
-    }
-
-    pub(crate) fn commanded(self) -> bool
-        ensures { λ r. ⌜ r ≡ commanded self ⌝ }
-    {
-        let command = self.command;
-        match command {
-            Command::NoCommand => false,
-            Command::Commanded(_) => true,
-        }
-    }
-
-    pub(crate) fn held(self) -> bool
-        ensures { λ r. ⌜ r ≡ held self ⌝ }
-    {
-        let hold = self.hold;
-        match hold {
-            Hold::NoHold => false,
-            Hold::Transmit => true,
-            Hold::Receive => true,
-        }
-    }
-
     // All that is under way stops, and both lines are released.
-    pub(crate) fn stop_shifter(mut self) -> Iic
+    pub(crate) fn stop_shifter(self) -> Iic
         ensures { λ r. ⌜ r ≡ stopShifterOf self ⌝ }
     {
-        self.lines.drive.scl = true;
-        self.lines.drive.sda = true;
-        self.flags.synchronized_hold = false;
-        self.flags.receive_enabled = false;
-        self.flags.receive_stopped = false;
         Iic {
-            frame: Framing::NoFrame,
-            condition: Condition::NoCondition,
-            command: Command::NoCommand,
-            hold: Hold::NoHold,
-            clock_wait: MaybeHalf::NoHalf,
-            monitor_wait: MaybeHalf::NoHalf,
+            core: self.core.stop_shifter(),
             setup_wait: MaybeWait::NoWait,
             ..self
-        }
-    }
-}
-
-impl Hold {
-    pub(crate) fn is_transmit(self) -> bool
-        ensures { λ r. ⌜ r ≡ isTransmitHold self ⌝ }
-    {
-        match self {
-            Hold::NoHold => false,
-            Hold::Transmit => true,
-            Hold::Receive => false,
         }
     }
 }

@@ -1,6 +1,7 @@
 // How the four waits of a state start, pause and resume.
 ghost use mathlib.Core.Path.{_≡_};
 ghost use Rattle.iic.specs.Answers.{andThen};
+ghost use Rattle.iic.specs.State.{setCore};
 ghost use Rattle.iic.specs.Waiting.{clockFrom, monitorFrom, filterFrom, setupFrom, startClockOf, startMonitorOf, startSetupOf, wantsFilter, scheduleFilterOf, turnClockOf, turnMonitorOf, turnFilterOf, turnSetupOf};
 use super::Ended;
 use super::Iic;
@@ -9,6 +10,7 @@ use clocks::Clocks;
 use clocks::tap::Tap;
 use clocks::wait::ClockWait;
 use clocks::wait::NewWait;
+use steps::Core;
 use time::Time;
 use waits::HalfWait;
 use waits::MaybeHalf;
@@ -25,7 +27,7 @@ impl Iic {
         ensures { λ r. ⌜ r ≡ clockFrom made self ⌝ }
     {
         match made {
-            NewHalf::Made(w) => self.with_clock_wait(MaybeHalf::Half(w)).fine(),
+            NewHalf::Made(w) => self.finished_with(self.core.with_clock_wait(MaybeHalf::Half(w))),
             NewHalf::Refused(n) => self.refused(n),
         }
     }
@@ -34,7 +36,7 @@ impl Iic {
         ensures { λ r. ⌜ r ≡ monitorFrom made self ⌝ }
     {
         match made {
-            NewHalf::Made(w) => self.with_monitor_wait(MaybeHalf::Half(w)).fine(),
+            NewHalf::Made(w) => self.finished_with(self.core.with_monitor_wait(MaybeHalf::Half(w))),
             NewHalf::Refused(n) => self.refused(n),
         }
     }
@@ -61,21 +63,21 @@ impl Iic {
     pub(crate) fn start_clock(self, now: Time, clocks: Clocks) -> Stepped
         ensures { λ r. ⌜ r ≡ startClockOf now clocks self ⌝ }
     {
-        let halves = period(self.registers.control) as u64;
+        let halves = period(self.core.registers.control) as u64;
         self.clock_from(HalfWait::after(now, halves, clocks))
     }
 
     pub(crate) fn start_monitor(self, now: Time, clocks: Clocks) -> Stepped
         ensures { λ r. ⌜ r ≡ startMonitorOf now clocks self ⌝ }
     {
-        let halves = monitor_halves(self.registers.control) as u64;
+        let halves = monitor_halves(self.core.registers.control) as u64;
         self.monitor_from(HalfWait::after(now, halves, clocks))
     }
 
     pub(crate) fn start_setup(self, now: Time, clocks: Clocks) -> Stepped
         ensures { λ r. ⌜ r ≡ startSetupOf now clocks self ⌝ }
     {
-        let cycles = setup_cycles(self.registers.control) as u64;
+        let cycles = setup_cycles(self.core.registers.control) as u64;
         self.setup_from(ClockWait::after(now, cycles, Tap::system(1), clocks))
     }
 
@@ -83,13 +85,14 @@ impl Iic {
         ensures { λ r. ⌜ r ≡ wantsFilter self ⌝ }
     {
         let filter_wait = self.filter_wait;
-        let lines = self.lines;
-        let raw = lines.raw;
-        let latch = lines.latch;
-        let filtered = lines.filtered;
-        self.awake()
-            & !filter_wait.is_wait()
-            & (!bus::same_levels(raw, latch) | !bus::same_levels(latch, filtered))
+        self.core.awake() & !filter_wait.is_wait() & self.core.unsettled()
+    }
+
+    // The clock's wait starts on a core that was set anew.
+    pub(crate) fn clock_with(self, core: Core, now: Time, clocks: Clocks) -> Stepped
+        ensures { λ r. ⌜ r ≡ startClockOf now clocks (setCore core self) ⌝ }
+    {
+        self.with_core(core).start_clock(now, clocks)
     }
 
     // A level is still on its way through the filter.
@@ -97,51 +100,52 @@ impl Iic {
         ensures { λ r. ⌜ r ≡ scheduleFilterOf now clocks self ⌝ }
     {
         if self.wants_filter() {
-            self.filter_from(ClockWait::after(now, 1, Tap::system(1), clocks))
-        } else {
-            self.fine()
+            return self.filter_from(ClockWait::after(now, 1, Tap::system(1), clocks));
         }
+        self.fine()
     }
 
     // The clock's wait resumes (true) or pauses (false).
     pub(crate) fn turn_clock(self, gate: bool, now: Time, clocks: Clocks) -> Stepped
         ensures { λ r. ⌜ r ≡ turnClockOf gate now clocks self ⌝ }
     {
-        let clock_wait = self.clock_wait;
-        match clock_wait {
-            MaybeHalf::NoHalf => self.fine(),
-            MaybeHalf::Half(w) => self.clock_from(turn_half(gate, now, clocks, w)),
-        }
+        let core = self.core;
+        let clock_wait = core.clock_wait;
+        let MaybeHalf::Half(w) = clock_wait else {
+            return self.fine();
+        };
+        self.clock_from(turn_half(gate, now, clocks, w))
     }
 
     fn turn_monitor(self, gate: bool, now: Time, clocks: Clocks) -> Stepped
         ensures { λ r. ⌜ r ≡ turnMonitorOf gate now clocks self ⌝ }
     {
-        let monitor_wait = self.monitor_wait;
-        match monitor_wait {
-            MaybeHalf::NoHalf => self.fine(),
-            MaybeHalf::Half(w) => self.monitor_from(turn_half(gate, now, clocks, w)),
-        }
+        let core = self.core;
+        let monitor_wait = core.monitor_wait;
+        let MaybeHalf::Half(w) = monitor_wait else {
+            return self.fine();
+        };
+        self.monitor_from(turn_half(gate, now, clocks, w))
     }
 
     fn turn_filter(self, gate: bool, now: Time, clocks: Clocks) -> Stepped
         ensures { λ r. ⌜ r ≡ turnFilterOf gate now clocks self ⌝ }
     {
         let filter_wait = self.filter_wait;
-        match filter_wait {
-            MaybeWait::NoWait => self.fine(),
-            MaybeWait::Waiting(w) => self.filter_from(turn_wait(gate, now, clocks, w)),
-        }
+        let MaybeWait::Waiting(w) = filter_wait else {
+            return self.fine();
+        };
+        self.filter_from(turn_wait(gate, now, clocks, w))
     }
 
     fn turn_setup(self, gate: bool, now: Time, clocks: Clocks) -> Stepped
         ensures { λ r. ⌜ r ≡ turnSetupOf gate now clocks self ⌝ }
     {
         let setup_wait = self.setup_wait;
-        match setup_wait {
-            MaybeWait::NoWait => self.fine(),
-            MaybeWait::Waiting(w) => self.setup_from(turn_wait(gate, now, clocks, w)),
-        }
+        let MaybeWait::Waiting(w) = setup_wait else {
+            return self.fine();
+        };
+        self.setup_from(turn_wait(gate, now, clocks, w))
     }
 }
 
@@ -150,43 +154,39 @@ impl Stepped {
         ensures { λ r. ⌜ r ≡ andThen self (scheduleFilterOf now clocks) ⌝ }
     {
         let ended = self.ended;
-        let state = self.state;
-        match ended {
-            Ended::Finished => state.schedule_filter(now, clocks),
-            Ended::Refused(_) => self,
-        }
+        let Ended::Finished = ended else {
+            return self;
+        };
+        self.state.schedule_filter(now, clocks)
     }
 
     pub(crate) fn then_turn_monitor(self, gate: bool, now: Time, clocks: Clocks) -> Stepped
         ensures { λ r. ⌜ r ≡ andThen self (turnMonitorOf gate now clocks) ⌝ }
     {
         let ended = self.ended;
-        let state = self.state;
-        match ended {
-            Ended::Finished => state.turn_monitor(gate, now, clocks),
-            Ended::Refused(_) => self,
-        }
+        let Ended::Finished = ended else {
+            return self;
+        };
+        self.state.turn_monitor(gate, now, clocks)
     }
 
     pub(crate) fn then_turn_filter(self, gate: bool, now: Time, clocks: Clocks) -> Stepped
         ensures { λ r. ⌜ r ≡ andThen self (turnFilterOf gate now clocks) ⌝ }
     {
         let ended = self.ended;
-        let state = self.state;
-        match ended {
-            Ended::Finished => state.turn_filter(gate, now, clocks),
-            Ended::Refused(_) => self,
-        }
+        let Ended::Finished = ended else {
+            return self;
+        };
+        self.state.turn_filter(gate, now, clocks)
     }
 
     pub(crate) fn then_turn_setup(self, gate: bool, now: Time, clocks: Clocks) -> Stepped
         ensures { λ r. ⌜ r ≡ andThen self (turnSetupOf gate now clocks) ⌝ }
     {
         let ended = self.ended;
-        let state = self.state;
-        match ended {
-            Ended::Finished => state.turn_setup(gate, now, clocks),
-            Ended::Refused(_) => self,
-        }
+        let Ended::Finished = ended else {
+            return self;
+        };
+        self.state.turn_setup(gate, now, clocks)
     }
 }

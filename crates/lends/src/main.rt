@@ -8,12 +8,12 @@ use clocks::Clocks;
 use clocks::Frequencies;
 use iic::Byte;
 use iic::Ended;
-use iic::Hold;
 use iic::Iic;
 use iic::Pins;
 use same::same_bytes;
 use same::same_ends;
 use same::same_states;
+use steps::Hold;
 use time::Time;
 
 // Two peripherals that get the same calls: one lent, one by value.
@@ -193,37 +193,16 @@ fn refused_late(k: Clocks) {
 fn refused_first(k: Clocks) {
     let mut s = Iic::new();
     finish(step(started(s), 0, 0x80, 1, 4, dead_set()));
-    s.registers.count = 9;
+    s.core.registers.count = 9;
     finish(step(started(s), 0, 0x80, 1, 4, k));
 }
 
 // The default with SCL held low.
 fn held(hold: Hold) -> Iic {
     let s = Iic::new();
-    let registers = s.registers;
-    let lines = s.lines;
-    let flags = s.flags;
-    let frame = s.frame;
-    let condition = s.condition;
-    let command = s.command;
-    let eighth_fall = s.eighth_fall;
-    let filter_wait = s.filter_wait;
-    let clock_wait = s.clock_wait;
-    let monitor_wait = s.monitor_wait;
-    let setup_wait = s.setup_wait;
     Iic {
-        registers,
-        lines,
-        flags,
-        frame,
-        condition,
-        command,
-        hold,
-        eighth_fall,
-        filter_wait,
-        clock_wait,
-        monitor_wait,
-        setup_wait,
+        core: s.core.with_hold(hold),
+        ..s
     }
 }
 

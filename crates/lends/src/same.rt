@@ -8,15 +8,16 @@ use frames::Frame;
 use frames::Framing;
 use frames::Phase;
 use iic::Byte;
-use iic::Command;
-use iic::Condition;
-use iic::EighthFall;
 use iic::Ended;
-use iic::Flags;
-use iic::Hold;
 use iic::Iic;
-use iic::Lines;
-use iic::Registers;
+use steps::Command;
+use steps::Condition;
+use steps::Core;
+use steps::EighthFall;
+use steps::Flags;
+use steps::Hold;
+use steps::Lines;
+use steps::Registers;
 use time::Time;
 use waits::HalfWait;
 use waits::MaybeHalf;
@@ -242,7 +243,7 @@ fn same_halves(a: MaybeHalf, b: MaybeHalf) -> bool {
     }
 }
 
-fn same_actions(a: Iic, b: Iic) -> bool {
+fn same_actions(a: Core, b: Core) -> bool {
     let condition = a.condition;
     let condition_b = b.condition;
     let command = a.command;
@@ -254,22 +255,15 @@ fn same_actions(a: Iic, b: Iic) -> bool {
         & (hold_number(hold) == hold_number(hold_b))
 }
 
-fn same_running_waits(a: Iic, b: Iic) -> bool {
-    let filter = a.filter_wait;
-    let filter_b = b.filter_wait;
+fn same_half_pairs(a: Core, b: Core) -> bool {
     let clock = a.clock_wait;
     let clock_b = b.clock_wait;
     let monitor = a.monitor_wait;
     let monitor_b = b.monitor_wait;
-    let setup = a.setup_wait;
-    let setup_b = b.setup_wait;
-    same_waits(filter, filter_b)
-        & same_halves(clock, clock_b)
-        & same_halves(monitor, monitor_b)
-        & same_waits(setup, setup_b)
+    same_halves(clock, clock_b) & same_halves(monitor, monitor_b)
 }
 
-pub(crate) fn same_states(a: Iic, b: Iic) -> bool {
+fn same_cores(a: Core, b: Core) -> bool {
     let frame = a.frame;
     let frame_b = b.frame;
     let fall = a.eighth_fall;
@@ -280,5 +274,13 @@ pub(crate) fn same_states(a: Iic, b: Iic) -> bool {
         & same_framings(frame, frame_b)
         & same_actions(a, b)
         & same_falls(fall, fall_b)
-        & same_running_waits(a, b)
+        & same_half_pairs(a, b)
+}
+
+pub(crate) fn same_states(a: Iic, b: Iic) -> bool {
+    let filter = a.filter_wait;
+    let filter_b = b.filter_wait;
+    let setup = a.setup_wait;
+    let setup_b = b.setup_wait;
+    same_cores(a.core, b.core) & same_waits(filter, filter_b) & same_waits(setup, setup_b)
 }

@@ -101,7 +101,7 @@ impl Answer {
             self.refusal,
             value,
             state.pins(),
-            state.registers.status,
+            state.core.registers.status,
         )
     }
 }

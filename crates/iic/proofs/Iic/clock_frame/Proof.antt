@@ -8,16 +8,16 @@ clock-due-requires c κs = tt
 launch-in-requires : tie.Need-launch-in-requires
 launch-in-requires c κs = tt
 
-fine-requires : tie.Need-fine-requires
-fine-requires c κs = tt
-
 returns : tie.Need-returns
 unfolding clockFrameOf
 returns c = simp (c .launch-in .ensures, c .before .if1 .taken, ← c .before .before .clock-due .ensures)
+
+fine-requires : tie.Need-fine-requires
+fine-requires c κs = tt
 
 returns-2 : tie.Need-returns-2
 unfolding clockFrameOf
 returns-2 c = simp (c .fine .ensures, c .before .if1 .left, ← c .before .before .clock-due .ensures)
 
 pub clock-frame-spec : {M : Type 1} → statement M
-clock-frame-spec = tie.close (tie.spec clock-due-requires launch-in-requires fine-requires returns returns-2)
+clock-frame-spec = tie.close (tie.spec clock-due-requires launch-in-requires returns fine-requires returns-2)

@@ -1,5 +1,5 @@
-use Rattle.iic.specs.Edges.{fallOf}
 use borrow.Author.Needs.{needs}
+use Rattle.iic.specs.Edges.{fallOf}
 use Rattle.iic.proofs.Iic.fall.Statement.{statement}
 use Rattle.iic.proofs.Iic.fall.Tie as tie
 
@@ -12,12 +12,12 @@ enum-told c = search needs
 fall-idle-requires : tie.Need-fall-idle-requires
 fall-idle-requires c κs = tt
 
-fine-requires : tie.Need-fine-requires
-fine-requires c κs = tt
+finished-with-requires : tie.Need-finished-with-requires
+finished-with-requires c κs = tt
 
 returns : tie.Need-returns
 unfolding fallOf
-returns c = simp (c .fine .ensures, ← c .before .fall-idle .ensures, c .before .before .enum-told .given .1)
+returns c = simp (c .finished-with .ensures, c .before .fall-idle .ensures, c .before .before .enum-told .given .1)
 
 fall-at-requires : tie.Need-fall-at-requires
 fall-at-requires c κs = tt
@@ -27,4 +27,4 @@ unfolding fallOf
 returns-2 c = simp (c .fall-at .ensures, c .before .before .frame .given .1)
 
 pub fall-spec : {M : Type 1} → statement M
-fall-spec = tie.close (tie.spec enum-known-frame enum-told fall-idle-requires fine-requires returns fall-at-requires returns-2)
+fall-spec = tie.close (tie.spec enum-known-frame enum-told fall-idle-requires finished-with-requires returns fall-at-requires returns-2)

@@ -1,5 +1,5 @@
-use Rattle.iic.specs.Clocking.{fireClockOf}
 use borrow.Author.Needs.{needs}
+use Rattle.iic.specs.Clocking.{fireClockOf}
 use Rattle.iic.proofs.Iic.fire_clock.Statement.{statement}
 use Rattle.iic.proofs.Iic.fire_clock.Tie as tie
 
@@ -14,6 +14,9 @@ enum-told c = search needs
 
 with-clock-wait-requires : tie.Need-with-clock-wait-requires
 with-clock-wait-requires c κs = tt
+
+with-core-requires : tie.Need-with-core-requires
+with-core-requires c κs = tt
 
 clock-step-requires : tie.Need-clock-step-requires
 clock-step-requires c κs = tt
@@ -32,7 +35,7 @@ refused-requires c κs = tt
 
 returns : tie.Need-returns
 unfolding fireClockOf
-returns c = simp (c .clock-step .ensures, c .before .with-clock-wait .ensures, c .before .before .enum-told .given .1, ← c .before .before .before .before .due .ensures, ← c .before .before .before .before .before .half-end .ensures)
+returns c = simp (c .clock-step .ensures, c .before .with-core .ensures, c .before .before .with-clock-wait .ensures, c .before .before .before .enum-told .given .1, ← c .before .before .before .before .before .due .ensures, ← c .before .before .before .before .before .before .half-end .ensures)
 
 returns-2 : tie.Need-returns-2
 unfolding fireClockOf
@@ -43,4 +46,4 @@ unfolding fireClockOf
 returns-3 c = simp (c .refused .ensures, c .before .before .ends .given .1, ← c .before .before .before .before .due .ensures, ← c .before .before .before .before .before .half-end .ensures)
 
 pub fire-clock-spec : {M : Type 1} → statement M
-fire-clock-spec = tie.close (tie.spec half-end-requires due-requires enum-told with-clock-wait-requires clock-step-requires enum-told-2 fine-requires enum-known-ends refused-requires returns returns-2 returns-3)
+fire-clock-spec = tie.close (tie.spec half-end-requires due-requires enum-told with-clock-wait-requires with-core-requires clock-step-requires enum-told-2 fine-requires enum-known-ends refused-requires returns returns-2 returns-3)

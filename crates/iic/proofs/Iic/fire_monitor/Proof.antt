@@ -1,5 +1,5 @@
-use Rattle.iic.specs.Clocking.{fireMonitorOf}
 use borrow.Author.Needs.{needs}
+use Rattle.iic.specs.Clocking.{fireMonitorOf}
 use Rattle.iic.proofs.Iic.fire_monitor.Statement.{statement}
 use Rattle.iic.proofs.Iic.fire_monitor.Tie as tie
 
@@ -14,6 +14,9 @@ enum-told c = search needs
 
 with-monitor-wait-requires : tie.Need-with-monitor-wait-requires
 with-monitor-wait-requires c κs = tt
+
+with-core-requires : tie.Need-with-core-requires
+with-core-requires c κs = tt
 
 stretch-requires : tie.Need-stretch-requires
 stretch-requires c κs = tt
@@ -32,7 +35,7 @@ refused-requires c κs = tt
 
 returns : tie.Need-returns
 unfolding fireMonitorOf
-returns c = simp (c .stretch .ensures, c .before .with-monitor-wait .ensures, c .before .before .enum-told .given .1, ← c .before .before .before .before .due .ensures, ← c .before .before .before .before .before .half-end .ensures)
+returns c = simp (c .stretch .ensures, c .before .with-core .ensures, c .before .before .with-monitor-wait .ensures, c .before .before .before .enum-told .given .1, ← c .before .before .before .before .before .due .ensures, ← c .before .before .before .before .before .before .half-end .ensures)
 
 returns-2 : tie.Need-returns-2
 unfolding fireMonitorOf
@@ -43,4 +46,4 @@ unfolding fireMonitorOf
 returns-3 c = simp (c .refused .ensures, c .before .before .ends .given .1, ← c .before .before .before .before .due .ensures, ← c .before .before .before .before .before .half-end .ensures)
 
 pub fire-monitor-spec : {M : Type 1} → statement M
-fire-monitor-spec = tie.close (tie.spec half-end-requires due-requires enum-told with-monitor-wait-requires stretch-requires enum-told-2 fine-requires enum-known-ends refused-requires returns returns-2 returns-3)
+fire-monitor-spec = tie.close (tie.spec half-end-requires due-requires enum-told with-monitor-wait-requires with-core-requires stretch-requires enum-told-2 fine-requires enum-known-ends refused-requires returns returns-2 returns-3)

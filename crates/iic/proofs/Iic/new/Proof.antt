@@ -1,11 +1,13 @@
-use mathlib.Core.Path.{refl}
 use Rattle.iic.specs.State.{defaultIic}
 use Rattle.iic.proofs.Iic.new.Statement.{statement}
 use Rattle.iic.proofs.Iic.new.Tie as tie
 
+new-requires : tie.Need-new-requires
+new-requires c κs = tt
+
 returns : tie.Need-returns
 unfolding defaultIic
-returns c = refl
+returns c = simp (c .new .ensures)
 
 pub new-spec : {M : Type 1} → statement M
-new-spec = tie.close (tie.spec returns)
+new-spec = tie.close (tie.spec new-requires returns)

@@ -1,5 +1,5 @@
-use Rattle.iic.specs.Access.{readAt}
 use borrow.Author.Needs.{needs}
+use Rattle.iic.specs.Access.{readAt}
 use Rattle.iic.proofs.Iic.read_at.Statement.{statement}
 use Rattle.iic.proofs.Iic.read_at.Tie as tie
 
@@ -32,6 +32,9 @@ enum-told-5 c = search needs
 
 note-status-requires : tie.Need-note-status-requires
 note-status-requires c κs = tt
+
+finished-with-requires : tie.Need-finished-with-requires
+finished-with-requires c κs = tt
 
 enum-told-6 : tie.Need-enum-told-6
 enum-told-6 c = search needs
@@ -69,7 +72,7 @@ returns-4 c = simp (c .fine4 .ensures, c .before .enum-told4 .given .1)
 
 returns-5 : tie.Need-returns-5
 unfolding readAt
-returns-5 c = simp (c .note-status .ensures, c .before .enum-told5 .given .1)
+returns-5 c = simp (c .finished-with .ensures, c .before .note-status .ensures, c .before .before .enum-told5 .given .1)
 
 returns-6 : tie.Need-returns-6
 unfolding readAt
@@ -84,4 +87,4 @@ unfolding readAt
 returns-8 c = simp (c .read-data .ensures, c .before .enum-told8 .given .1)
 
 pub read-at-spec : {M : Type 1} → statement M
-read-at-spec = tie.close (tie.spec enum-told fine-requires enum-told-2 fine-requires-2 enum-told-3 fine-requires-3 enum-told-4 fine-requires-4 enum-told-5 note-status-requires enum-told-6 fine-requires-5 enum-told-7 fine-requires-6 enum-told-8 read-data-requires returns returns-2 returns-3 returns-4 returns-5 returns-6 returns-7 returns-8)
+read-at-spec = tie.close (tie.spec enum-told fine-requires enum-told-2 fine-requires-2 enum-told-3 fine-requires-3 enum-told-4 fine-requires-4 enum-told-5 note-status-requires finished-with-requires enum-told-6 fine-requires-5 enum-told-7 fine-requires-6 enum-told-8 read-data-requires returns returns-2 returns-3 returns-4 returns-5 returns-6 returns-7 returns-8)

@@ -10,14 +10,14 @@ at-requires c κs = tt
 read-at-requires : tie.Need-read-at-requires
 read-at-requires c κs = tt
 
+returns : tie.Need-returns
+returns c = simp (c .read-at .ensures, c .before .at .ensures, c .before .before .if1 .taken, ← c .before .before .before .guard .ensures)
+
 refused-requires : tie.Need-refused-requires
 refused-requires c κs = tt
-
-returns : tie.Need-returns
-returns c = simp (c .read-at .ensures, ← c .before .at .ensures, c .before .before .if1 .taken, ← c .before .before .before .guard .ensures)
 
 returns-2 : tie.Need-returns-2
 returns-2 c = simp (c .refused .ensures, c .before .if1 .left, ← c .before .before .guard .ensures)
 
 pub read-step-spec : {M : Type 1} → statement M
-read-step-spec = tie.close (tie.spec guard-requires at-requires read-at-requires refused-requires returns returns-2)
+read-step-spec = tie.close (tie.spec guard-requires at-requires read-at-requires returns refused-requires returns-2)

@@ -5,6 +5,9 @@ use Rattle.iic.proofs.Iic.release_hold.Tie as tie
 with-hold-requires : tie.Need-with-hold-requires
 with-hold-requires c κs = tt
 
+with-core-requires : tie.Need-with-core-requires
+with-core-requires c κs = tt
+
 wait-after-hold-requires : tie.Need-wait-after-hold-requires
 wait-after-hold-requires c κs = tt
 
@@ -13,7 +16,7 @@ then-show-requires c κs = tt
 
 returns : tie.Need-returns
 unfolding releaseHoldOf
-returns c = simp (c .then-show .ensures, c .before .wait-after-hold .ensures, c .before .before .with-hold .ensures)
+returns c = simp (c .then-show .ensures, c .before .wait-after-hold .ensures, c .before .before .with-core .ensures, c .before .before .before .with-hold .ensures)
 
 pub release-hold-spec : {M : Type 1} → statement M
-release-hold-spec = tie.close (tie.spec with-hold-requires wait-after-hold-requires then-show-requires returns)
+release-hold-spec = tie.close (tie.spec with-hold-requires with-core-requires wait-after-hold-requires then-show-requires returns)

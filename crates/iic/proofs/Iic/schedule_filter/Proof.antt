@@ -14,16 +14,16 @@ after-requires c κs = tt
 filter-from-requires : tie.Need-filter-from-requires
 filter-from-requires c κs = tt
 
-fine-requires : tie.Need-fine-requires
-fine-requires c κs = tt
-
 returns : tie.Need-returns
 unfolding scheduleFilterOf
-returns c = simp (c .filter-from .ensures, ← (rw (c .before .before .system .ensures) at (c .before .after .ensures)), c .before .before .before .if1 .taken, ← c .before .before .before .before .wants-filter .ensures)
+returns c = simp (c .filter-from .ensures, c .before .after .ensures, c .before .before .system .ensures, c .before .before .before .if1 .taken, ← c .before .before .before .before .wants-filter .ensures)
+
+fine-requires : tie.Need-fine-requires
+fine-requires c κs = tt
 
 returns-2 : tie.Need-returns-2
 unfolding scheduleFilterOf
 returns-2 c = simp (c .fine .ensures, c .before .if1 .left, ← c .before .before .wants-filter .ensures)
 
 pub schedule-filter-spec : {M : Type 1} → statement M
-schedule-filter-spec = tie.close (tie.spec wants-filter-requires system-requires after-requires filter-from-requires fine-requires returns returns-2)
+schedule-filter-spec = tie.close (tie.spec wants-filter-requires system-requires after-requires filter-from-requires returns fine-requires returns-2)

@@ -1,5 +1,5 @@
-use Rattle.iic.specs.Access.{writeAt}
 use borrow.Author.Needs.{needs}
+use Rattle.iic.specs.Access.{writeAt}
 use Rattle.iic.proofs.Iic.write_at.Statement.{statement}
 use Rattle.iic.proofs.Iic.write_at.Tie as tie
 
@@ -21,8 +21,8 @@ enum-told-3 c = search needs
 write-mode-requires : tie.Need-write-mode-requires
 write-mode-requires c κs = tt
 
-fine-requires : tie.Need-fine-requires
-fine-requires c κs = tt
+finished-with-requires : tie.Need-finished-with-requires
+finished-with-requires c κs = tt
 
 enum-told-4 : tie.Need-enum-told-4
 enum-told-4 c = search needs
@@ -30,8 +30,8 @@ enum-told-4 c = search needs
 write-enable-requires : tie.Need-write-enable-requires
 write-enable-requires c κs = tt
 
-fine-requires-2 : tie.Need-fine-requires-2
-fine-requires-2 c κs = tt
+finished-with-requires-2 : tie.Need-finished-with-requires-2
+finished-with-requires-2 c κs = tt
 
 enum-told-5 : tie.Need-enum-told-5
 enum-told-5 c = search needs
@@ -39,8 +39,8 @@ enum-told-5 c = search needs
 write-status-requires : tie.Need-write-status-requires
 write-status-requires c κs = tt
 
-kick-requires : tie.Need-kick-requires
-kick-requires c κs = tt
+kick-with-requires : tie.Need-kick-with-requires
+kick-with-requires c κs = tt
 
 enum-told-6 : tie.Need-enum-told-6
 enum-told-6 c = search needs
@@ -48,8 +48,8 @@ enum-told-6 c = search needs
 write-address-requires : tie.Need-write-address-requires
 write-address-requires c κs = tt
 
-kick-requires-2 : tie.Need-kick-requires-2
-kick-requires-2 c κs = tt
+kick-with-requires-2 : tie.Need-kick-with-requires-2
+kick-with-requires-2 c κs = tt
 
 enum-told-7 : tie.Need-enum-told-7
 enum-told-7 c = search needs
@@ -60,8 +60,8 @@ write-data-requires c κs = tt
 enum-told-8 : tie.Need-enum-told-8
 enum-told-8 c = search needs
 
-fine-requires-3 : tie.Need-fine-requires-3
-fine-requires-3 c κs = tt
+fine-requires : tie.Need-fine-requires
+fine-requires c κs = tt
 
 returns : tie.Need-returns
 unfolding writeAt
@@ -73,19 +73,19 @@ returns-2 c = simp (c .write-reset .ensures, c .before .enum-told2 .given .1)
 
 returns-3 : tie.Need-returns-3
 unfolding writeAt
-returns-3 c = simp (c .fine .ensures, ← c .before .write-mode .ensures, c .before .before .enum-told3 .given .1)
+returns-3 c = simp (c .finished-with .ensures, c .before .write-mode .ensures, c .before .before .enum-told3 .given .1)
 
 returns-4 : tie.Need-returns-4
 unfolding writeAt
-returns-4 c = simp (c .fine2 .ensures, ← c .before .write-enable .ensures, c .before .before .enum-told4 .given .1)
+returns-4 c = simp (c .finished-with2 .ensures, c .before .write-enable .ensures, c .before .before .enum-told4 .given .1)
 
 returns-5 : tie.Need-returns-5
 unfolding writeAt
-returns-5 c = simp (c .kick .ensures, ← c .before .write-status .ensures, c .before .before .enum-told5 .given .1)
+returns-5 c = simp (c .kick-with .ensures, c .before .write-status .ensures, c .before .before .enum-told5 .given .1)
 
 returns-6 : tie.Need-returns-6
 unfolding writeAt
-returns-6 c = simp (c .kick2 .ensures, ← c .before .write-address .ensures, c .before .before .enum-told6 .given .1)
+returns-6 c = simp (c .kick-with2 .ensures, c .before .write-address .ensures, c .before .before .enum-told6 .given .1)
 
 returns-7 : tie.Need-returns-7
 unfolding writeAt
@@ -93,7 +93,7 @@ returns-7 c = simp (c .write-data .ensures, c .before .enum-told7 .given .1)
 
 returns-8 : tie.Need-returns-8
 unfolding writeAt
-returns-8 c = simp (c .fine3 .ensures, c .before .enum-told8 .given .1)
+returns-8 c = simp (c .fine .ensures, c .before .enum-told8 .given .1)
 
 pub write-at-spec : {M : Type 1} → statement M
-write-at-spec = tie.close (tie.spec enum-told write-control-requires enum-told-2 write-reset-requires enum-told-3 write-mode-requires fine-requires enum-told-4 write-enable-requires fine-requires-2 enum-told-5 write-status-requires kick-requires enum-told-6 write-address-requires kick-requires-2 enum-told-7 write-data-requires enum-told-8 fine-requires-3 returns returns-2 returns-3 returns-4 returns-5 returns-6 returns-7 returns-8)
+write-at-spec = tie.close (tie.spec enum-told write-control-requires enum-told-2 write-reset-requires enum-told-3 write-mode-requires finished-with-requires enum-told-4 write-enable-requires finished-with-requires-2 enum-told-5 write-status-requires kick-with-requires enum-told-6 write-address-requires kick-with-requires-2 enum-told-7 write-data-requires enum-told-8 fine-requires returns returns-2 returns-3 returns-4 returns-5 returns-6 returns-7 returns-8)

@@ -5,34 +5,15 @@ use Rattle.iic.proofs.Iic.write_control.Tie as tie
 take-control-requires : tie.Need-take-control-requires
 take-control-requires c κs = tt
 
-enabled-requires : tie.Need-enabled-requires
-enabled-requires c κs = tt
+with-core-requires : tie.Need-with-core-requires
+with-core-requires c κs = tt
 
-schedule-filter-requires : tie.Need-schedule-filter-requires
-schedule-filter-requires c κs = tt
-
-then-stop-receive-requires : tie.Need-then-stop-receive-requires
-then-stop-receive-requires c κs = tt
-
-then-kick-requires : tie.Need-then-kick-requires
-then-kick-requires c κs = tt
+control-taken-requires : tie.Need-control-taken-requires
+control-taken-requires c κs = tt
 
 returns : tie.Need-returns
 unfolding writeControlOf
-returns c = simp (c .then-kick .ensures, c .before .then-stop-receive .ensures, ← c .before .before .schedule-filter .ensures, c .before .before .before .if1 .taken, ← c .before .before .before .before .enabled .ensures, ← c .before .before .before .before .before .take-control .ensures)
-
-stop-shifter-requires : tie.Need-stop-shifter-requires
-stop-shifter-requires c κs = tt
-
-with-filter-wait-requires : tie.Need-with-filter-wait-requires
-with-filter-wait-requires c κs = tt
-
-fine-requires : tie.Need-fine-requires
-fine-requires c κs = tt
-
-returns-2 : tie.Need-returns-2
-unfolding writeControlOf
-returns-2 c = simp (c .fine .ensures, c .before .with-filter-wait .ensures, ← c .before .before .stop-shifter .ensures, c .before .before .before .if1 .left, ← c .before .before .before .before .enabled .ensures, ← c .before .before .before .before .before .take-control .ensures)
+returns c = simp (c .control-taken .ensures, c .before .with-core .ensures, c .before .before .take-control .ensures)
 
 pub write-control-spec : {M : Type 1} → statement M
-write-control-spec = tie.close (tie.spec take-control-requires enabled-requires schedule-filter-requires then-stop-receive-requires then-kick-requires returns stop-shifter-requires with-filter-wait-requires fine-requires returns-2)
+write-control-spec = tie.close (tie.spec take-control-requires with-core-requires control-taken-requires returns)

@@ -5,6 +5,9 @@ use Rattle.iic.proofs.Iic.write_data.Tie as tie
 give-data-requires : tie.Need-give-data-requires
 give-data-requires c κs = tt
 
+with-core-requires : tie.Need-with-core-requires
+with-core-requires c κs = tt
+
 send-on-requires : tie.Need-send-on-requires
 send-on-requires c κs = tt
 
@@ -13,7 +16,7 @@ then-kick-requires c κs = tt
 
 returns : tie.Need-returns
 unfolding writeDataOf
-returns c = simp (c .then-kick .ensures, ← c .before .send-on .ensures, ← c .before .before .give-data .ensures)
+returns c = simp (c .then-kick .ensures, c .before .send-on .ensures, c .before .before .with-core .ensures, c .before .before .before .give-data .ensures)
 
 pub write-data-spec : {M : Type 1} → statement M
-write-data-spec = tie.close (tie.spec give-data-requires send-on-requires then-kick-requires returns)
+write-data-spec = tie.close (tie.spec give-data-requires with-core-requires send-on-requires then-kick-requires returns)

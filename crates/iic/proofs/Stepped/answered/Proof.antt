@@ -1,6 +1,5 @@
 use Rattle.iic.proofs.Stepped.answered.Statement.{statement}
 use Rattle.iic.proofs.Stepped.answered.Tie as tie
-use Rattle.iic.proofs.Ended.byte.Reads as byte-reads
 
 byte-requires : tie.Need-byte-requires
 byte-requires c κs = tt

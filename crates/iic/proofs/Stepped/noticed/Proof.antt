@@ -1,6 +1,5 @@
 use Rattle.iic.proofs.Stepped.noticed.Statement.{statement}
 use Rattle.iic.proofs.Stepped.noticed.Tie as tie
-use Rattle.iic.proofs.Ended.truth.Reads as truth-reads
 
 truth-requires : tie.Need-truth-requires
 truth-requires c κs = tt

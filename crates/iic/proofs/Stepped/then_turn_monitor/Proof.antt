@@ -5,17 +5,17 @@ use Rattle.iic.proofs.Stepped.then_turn_monitor.Tie as tie
 enum-told : tie.Need-enum-told
 enum-told c = search needs
 
-turn-monitor-requires : tie.Need-turn-monitor-requires
-turn-monitor-requires c κs = tt
-
 enum-told-2 : tie.Need-enum-told-2
 enum-told-2 c = search needs
 
 returns : tie.Need-returns
-returns c = simp (c .turn-monitor .ensures, c .before .enum-told .given .1)
+returns c = search needs
+
+turn-monitor-requires : tie.Need-turn-monitor-requires
+turn-monitor-requires c κs = tt
 
 returns-2 : tie.Need-returns-2
-returns-2 c = simp (c .enum-told2 .given .1)
+returns-2 c = simp (c .turn-monitor .ensures, c .before .enum-told .given .1)
 
 pub then-turn-monitor-spec : {M : Type 1} → statement M
-then-turn-monitor-spec = tie.close (tie.spec enum-told turn-monitor-requires enum-told-2 returns returns-2)
+then-turn-monitor-spec = tie.close (tie.spec enum-told enum-told-2 returns turn-monitor-requires returns-2)

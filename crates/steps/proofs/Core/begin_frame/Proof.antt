@@ -1,0 +1,19 @@
+use Rattle.steps.specs.Shift.{beginFrameOf}
+use Rattle.steps.proofs.Core.begin_frame.Statement.{statement}
+use Rattle.steps.proofs.Core.begin_frame.Tie as tie
+
+fresh-requires : tie.Need-fresh-requires
+fresh-requires c κs = tt
+
+with-frame-requires : tie.Need-with-frame-requires
+with-frame-requires c κs = tt
+
+load-transmit-requires : tie.Need-load-transmit-requires
+load-transmit-requires c κs = tt
+
+returns : tie.Need-returns
+unfolding beginFrameOf
+returns c = simp (c .load-transmit .ensures, c .before .with-frame .ensures, c .before .before .fresh .ensures)
+
+pub begin-frame-spec : {M : Type 1} → statement M
+begin-frame-spec = tie.close (tie.spec fresh-requires with-frame-requires load-transmit-requires returns)

@@ -1,0 +1,11 @@
+use Rattle.steps.proofs.Core.progress.Statement.{statement}
+use Rattle.steps.proofs.Core.progress.Tie as tie
+
+progress-holds-requires : tie.Need-progress-holds-requires
+progress-holds-requires c κs = tt
+
+returns : tie.Need-returns
+returns c = simp (c .progress-holds .ensures)
+
+pub progress-spec : {M : Type 1} → statement M
+progress-spec = tie.close (tie.spec progress-holds-requires returns)

@@ -1,0 +1,49 @@
+-- Definitions: what a core must meet, and what it asks of its host (document 01, Refusals; iic.rs, `validate`, `interrupt`).
+use Prim.Native.Nat.{ℕ}
+use Rattle.bus.specs.Bits.{flag, has}
+use Rattle.frames.specs.Parts.{progressIn}
+use Rattle.steps.specs.Bits.{AL, NACKF, NAKIE, STOP}
+use Rattle.steps.specs.State.{synchronous}
+use Rattle.steps.specs.declared.Core.{Core}
+use Rattle.steps.specs.declared.EighthFall.{EighthFall}
+use Rattle.steps.specs.declared.EighthFall.the-variants.{FellAt, NoFall}
+use Rattle.time.specs.Time.{earlier}
+use Rattle.time.specs.declared.Time.{Time}
+use Rattle.waits.specs.Ends.{shortHalf}
+use lib.Bits.{bitAnd, bitOr}
+use lib.Dec.{eqb, ltb}
+use mathlib.Core.Bool.{Bool, _&&_, _||_, cond, not, true}
+
+-- ## Refusals that stand before a call: 1, then 9, then 10, with the state unchanged; 0 for none
+
+-- document 01, 9: a count above 7, or mode bits outside c0
+abbrev pub rangesHold : Core → Bool
+rangesHold s = ltb (s .registers .count) 8 && eqb (bitAnd (s .registers .mode) 0x3f) 0
+
+abbrev pub progressHolds : Core → Bool
+progressHolds s = progressIn (s .frame)
+
+-- ## `validate`: 9, 10, 11, 12, or 0
+
+abbrev pub fellBy : EighthFall → Time → Bool
+fellBy NoFall now = true
+fellBy (FellAt t) now = not (earlier now t)
+
+abbrev pub halvesRefusal : Core → ℕ
+halvesRefusal s = cond (shortHalf (s .«clock_wait») && shortHalf (s .«monitor_wait»)) 0 12
+
+-- ## Interrupts
+
+-- NACKF asks for nothing in synchronous mode
+abbrev pub nackMask : Core → ℕ
+nackMask s = bitOr AL (flag (not (synchronous s)) NACKF)
+
+abbrev pub interruptBy : Core → ℕ → Bool
+interruptBy s enable =
+    has (bitAnd (s .registers .status) enable) 0xe0
+    || not (synchronous s) && has (bitAnd (s .registers .status) enable) STOP
+    || has enable NAKIE && has (s .registers .status) (nackMask s)
+
+-- with further enables that the host retained
+abbrev pub interruptWith : Core → ℕ → Bool
+interruptWith s retained = interruptBy s (bitOr (s .registers .enable) retained)

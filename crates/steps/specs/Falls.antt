@@ -1,0 +1,73 @@
+-- Definitions: what a falling clock brings (iic.rs, `falling`).
+use Rattle.bus.specs.Bits.{has}
+use Rattle.frames.specs.Parts.{dataLevel, isData, isDone, starved, turned}
+use Rattle.frames.specs.declared.Frame.{Frame}
+use Rattle.frames.specs.declared.Framing.{Framing}
+use Rattle.frames.specs.declared.Framing.the-variants.{InFrame, NoFrame}
+use Rattle.steps.specs.Bits.{ACKBT, RDRF, WAIT}
+use Rattle.steps.specs.Setters.{setEighthFall, setFrame, setReceiveEnabled, setReceiveStopped, setStaleRelease}
+use Rattle.steps.specs.Shift.{setHoldOf}
+use Rattle.steps.specs.State.{driveScl, driveSda, held, master, synchronous, transmits, unclocked}
+use Rattle.steps.specs.declared.Core.{Core}
+use Rattle.steps.specs.declared.EighthFall.the-variants.{FellAt}
+use Rattle.steps.specs.declared.Hold.the-variants.{Receive, Transmit}
+use Rattle.time.specs.declared.Time.{Time}
+use mathlib.Core.Bool.{Bool, _&&_, _||_, cond, false, not, true}
+
+-- ## `falling`
+
+-- a frame that is through ends, and SDA is released
+abbrev pub endFrame : Frame → Core → Core
+endFrame f s =
+    setFrame NoFrame (driveSda true
+    (setReceiveEnabled (s .flags .«receive_enabled» && not (f .last)) (setReceiveStopped (s .flags .«receive_stopped» || f .last) s)))
+
+abbrev pub endIn : Framing → Core → Core
+endIn NoFrame s = s
+endIn (InFrame f) s = cond (isDone (f .phase)) (endFrame f s) s
+
+unfoldable pub endFrameOf : Core → Core
+endFrameOf s = endIn (s .frame) s
+
+-- the direction follows ICCR1 from the next bit on
+abbrev pub followIn : Framing → Core → Core
+followIn NoFrame s = s
+followIn (InFrame f) s =
+    cond (isData (f .phase)) (setFrame (InFrame (turned (transmits s && (master s || not (f .address))) f)) s) s
+
+unfoldable pub followOf : Core → Core
+followOf s = followIn (s .frame) s
+
+-- no byte to send: SCL is held, or in synchronous mode a master's clock stops
+unfoldable pub holdTransmitOf : Core → Core
+holdTransmitOf s = cond (synchronous s && master s) (unclocked s) (setHoldOf Transmit s)
+
+abbrev pub fallDataIn : Framing → Core → Core
+fallDataIn NoFrame s = s
+fallDataIn (InFrame f) s = cond (starved f) (holdTransmitOf s) (driveSda (dataLevel f) s)
+
+unfoldable pub fallDataOf : Core → Core
+fallDataOf s = fallDataIn (s .frame) s
+
+-- the byte before is still in ICDRR
+unfoldable pub holdReceiveOf : Frame → Core → Core
+holdReceiveOf f s =
+    cond (not (f .transmit) && (s .flags .selected || master s) && has (s .registers .status) RDRF && not (s .flags .«stale_release»))
+    (setHoldOf Receive s) s
+
+-- the acknowledge level of a receiver that is meant
+unfoldable pub acknowledgeOf : Frame → Core → Core
+acknowledgeOf f s =
+    driveSda (f .transmit || not (s .flags .selected) && not (master s) || has (s .registers .enable) ACKBT) (setStaleRelease false s)
+
+-- a master without a frame keeps SCL low
+unfoldable pub fallIdleOf : Core → Core
+fallIdleOf s = cond (master s) (unclocked (driveScl false s)) s
+
+-- the eighth fall
+unfoldable pub fallTakenOf : Frame → Time → Core → Core
+fallTakenOf f now s = acknowledgeOf f (holdReceiveOf f (setEighthFall (FellAt now) s))
+
+-- ICMR's WAIT lengthens a master's wait
+abbrev pub insertsWait : Core → Bool
+insertsWait s = master s && has (s .registers .mode) WAIT && not (held s)

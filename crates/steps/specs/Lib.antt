@@ -1,0 +1,10 @@
+pub mod Bits
+pub mod Setters
+pub mod State
+pub mod Shift
+pub mod Conditions
+pub mod Falls
+pub mod Ready
+pub mod Access
+pub mod Filter
+pub mod Checks

@@ -1,0 +1,143 @@
+-- Definitions: the default, the tests on a core and its parts, and the small changes that many steps share (iic.rs, `Default`, `stop_shifter`).
+use Prim.Native.Nat.{_-_, ℕ}
+use Rattle.bus.specs.Bits.{has}
+use Rattle.bus.specs.declared.Levels.{Levels}
+use Rattle.frames.specs.declared.Framing.{Framing}
+use Rattle.frames.specs.declared.Framing.the-variants.{InFrame, NoFrame}
+use Rattle.steps.specs.Bits.{FS, ICE, MST, TRS}
+use Rattle.steps.specs.Setters.{setClockWait, setCommand, setCondition, setControl, setDrive, setFrame, setHold, setMonitorWait, setReceiveEnabled, setReceiveStopped, setStatus, setSynchronizedHold}
+use Rattle.steps.specs.declared.Command.{Command}
+use Rattle.steps.specs.declared.Command.the-variants.{Commanded, NoCommand}
+use Rattle.steps.specs.declared.Condition.{Condition}
+use Rattle.steps.specs.declared.Condition.the-variants.{NoCondition, StartHigh, StartHold, StartRelease, StopDetect, StopHigh, StopLow, StopRelease}
+use Rattle.steps.specs.declared.Core.{Core}
+use Rattle.steps.specs.declared.Flags.{Flags}
+use Rattle.steps.specs.declared.Registers.{Registers}
+use Rattle.steps.specs.declared.EighthFall.the-variants.{NoFall}
+use Rattle.steps.specs.declared.Hold.{Hold}
+use Rattle.steps.specs.declared.Hold.the-variants.{NoHold, Receive, Transmit}
+use Rattle.waits.specs.declared.MaybeHalf.the-variants.{NoHalf}
+use lib.Bits.{bitAnd, bitOr}
+use mathlib.Core.Bool.{Bool, _&&_, false, true}
+
+abbrev pub levels : Bool → Bool → Levels
+levels c d = record { scl = c; sda = d }
+
+-- ## iic.rs, `Default`
+
+abbrev pub defaultRegisters : Registers
+defaultRegisters = record { control = 0; mode = 0; count = 0; enable = 0; status = 0; seen = 0; address = 0; tdr = 0xff; rdr = 0xff }
+
+abbrev pub defaultFlags : Flags
+defaultFlags = record {
+  busy = false;
+  reset = false;
+  gate = false;
+  «synchronized_hold» = false;
+  selected = false;
+  completed = false;
+  «receive_enabled» = false;
+  «receive_stopped» = false;
+  «stale_release» = false;
+}
+
+unfoldable pub defaultCore : Core
+defaultCore = record {
+  registers = defaultRegisters;
+  lines = record { drive = levels true true; raw = levels true true; latch = levels true true; filtered = levels true true };
+  flags = defaultFlags;
+  frame = NoFrame;
+  condition = NoCondition;
+  command = NoCommand;
+  hold = NoHold;
+  «eighth_fall» = NoFall;
+  «clock_wait» = NoHalf;
+  «monitor_wait» = NoHalf;
+}
+
+-- ## Tests on the registers
+
+abbrev pub enabled : Core → Bool
+enabled s = has (s .registers .control) ICE
+
+abbrev pub master : Core → Bool
+master s = has (s .registers .control) MST
+
+abbrev pub transmits : Core → Bool
+transmits s = has (s .registers .control) TRS
+
+-- document 01: synchronous mode is SAR bit 0
+abbrev pub synchronous : Core → Bool
+synchronous s = has (s .registers .address) FS
+
+-- enabled and clocked
+abbrev pub awake : Core → Bool
+awake s = s .flags .gate && enabled s
+
+-- ## Tests on what is absent or present
+
+abbrev pub isFrame : Framing → Bool
+isFrame NoFrame = false
+isFrame (InFrame f) = true
+
+abbrev pub framed : Core → Bool
+framed s = isFrame (s .frame)
+
+abbrev pub isCondition : Condition → Bool
+isCondition NoCondition = false
+isCondition StartRelease = true
+isCondition StartHigh = true
+isCondition StartHold = true
+isCondition StopLow = true
+isCondition StopHigh = true
+isCondition StopRelease = true
+isCondition StopDetect = true
+
+abbrev pub conditioned : Core → Bool
+conditioned s = isCondition (s .condition)
+
+abbrev pub isCommand : Command → Bool
+isCommand NoCommand = false
+isCommand (Commanded start) = true
+
+abbrev pub commanded : Core → Bool
+commanded s = isCommand (s .command)
+
+abbrev pub isHold : Hold → Bool
+isHold NoHold = false
+isHold Transmit = true
+isHold Receive = true
+
+abbrev pub held : Core → Bool
+held s = isHold (s .hold)
+
+abbrev pub isTransmitHold : Hold → Bool
+isTransmitHold NoHold = false
+isTransmitHold Transmit = true
+isTransmitHold Receive = false
+
+-- ## Small changes
+
+-- the flags of the mask m are raised
+abbrev pub raise : ℕ → Core → Core
+raise m s = setStatus (bitOr (s .registers .status) m) s
+
+-- the bits of the mask m of ICCR1 are cleared
+abbrev pub clearControl : ℕ → Core → Core
+clearControl m s = setControl (bitAnd (s .registers .control) (0xff - m)) s
+
+abbrev pub driveScl : Bool → Core → Core
+driveScl b s = setDrive (levels b (s .lines .drive .sda)) s
+
+abbrev pub driveSda : Bool → Core → Core
+driveSda b s = setDrive (levels (s .lines .drive .scl) b) s
+
+-- neither of the two half waits
+abbrev pub unclocked : Core → Core
+unclocked s = setClockWait NoHalf (setMonitorWait NoHalf s)
+
+-- iic.rs, `stop_shifter`: all that is under way stops, and both lines are released
+unfoldable pub stopCoreOf : Core → Core
+stopCoreOf s =
+    setDrive (levels true true) (setFrame NoFrame (unclocked (setCondition NoCondition
+    (setCommand NoCommand (setHold NoHold (setSynchronizedHold false (setReceiveEnabled false (setReceiveStopped false s))))))))

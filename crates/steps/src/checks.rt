@@ -1,0 +1,64 @@
+// What a state must meet, and what it asks of its host.
+ghost use mathlib.Core.Path.{_≡_};
+ghost use Rattle.steps.specs.Checks.{fellBy, halvesRefusal, interruptBy, interruptWith, progressHolds, rangesHold};
+use super::Core;
+use super::EighthFall;
+use super::bits::AL;
+use super::bits::FS;
+use super::bits::NACKF;
+use super::bits::NAKIE;
+use super::bits::STOP;
+use time::Time;
+
+impl EighthFall {
+    pub fn fell_by(self, now: Time) -> bool
+        ensures { λ r. ⌜ r ≡ fellBy self now ⌝ }
+    {
+        match self {
+            EighthFall::NoFall => true,
+            EighthFall::FellAt(t) => !now.before(t),
+        }
+    }
+}
+
+impl Core {
+    pub fn ranges_hold(self) -> bool
+        ensures { λ r. ⌜ r ≡ rangesHold self ⌝ }
+    {
+        (self.registers.count < 8) & (self.registers.mode & 0x3f == 0)
+    }
+
+    pub fn progress(self) -> bool
+        ensures { λ r. ⌜ r ≡ progressHolds self ⌝ }
+    {
+        let frame = self.frame;
+        frame.progress_holds()
+    }
+
+    fn interrupt_by(self, enable: u8) -> bool
+        ensures { λ r. ⌜ r ≡ interruptBy self enable ⌝ }
+    {
+        let sync = self.registers.address & FS != 0;
+        let shown = self.registers.status & enable;
+        let mask = AL | bus::flag(!sync, NACKF);
+        (shown & 0xe0 != 0)
+            | (!sync & (shown & STOP != 0))
+            | ((enable & NAKIE != 0) & (self.registers.status & mask != 0))
+    }
+
+    // The same, with further enables that the host retained.
+    pub fn interrupt_with_enable(self, retained: u8) -> bool
+        ensures { λ r. ⌜ r ≡ interruptWith self retained ⌝ }
+    {
+        self.interrupt_by(self.registers.enable | retained)
+    }
+
+    pub fn halves_refusal(self) -> u8
+        ensures { λ r. ⌜ r ≡ halvesRefusal self ⌝ }
+    {
+        let clock_wait = self.clock_wait;
+        let monitor_wait = self.monitor_wait;
+        let short = clock_wait.is_short() & monitor_wait.is_short();
+        if short { 0 } else { 12 }
+    }
+}

@@ -1,0 +1,111 @@
+// The registers as the host reads them.
+ghost use mathlib.Core.Path.{_≡_};
+ghost use Rattle.steps.specs.Access.{continuedOf, fellNow, peekAt, registerAt, shownControl, takenOf};
+ghost use Rattle.steps.specs.Setters.{setSeen};
+use super::Core;
+use super::EighthFall;
+use super::Register;
+use super::bits::BBSY;
+use super::bits::IICRST;
+use super::bits::MST;
+use super::bits::RCVD;
+use super::bits::RDRF;
+use super::bits::SCLO;
+use super::bits::SDAO;
+use time::Time;
+
+impl Register {
+    // Address bits 0 to 2 choose.
+    pub fn at(address: u16) -> Register
+        ensures { λ r. ⌜ r ≡ registerAt address ⌝ }
+    {
+        let a = address & 7;
+        match a {
+            0 => Register::ICCR1,
+            1 => Register::ICCR2,
+            2 => Register::ICMR,
+            3 => Register::ICIER,
+            4 => Register::ICSR,
+            5 => Register::SAR,
+            6 => Register::ICDRT,
+            _ => Register::ICDRR,
+        }
+    }
+}
+
+impl EighthFall {
+    fn fell_at(self, now: Time) -> bool
+        ensures { λ r. ⌜ r ≡ fellNow self now ⌝ }
+    {
+        match self {
+            EighthFall::NoFall => false,
+            EighthFall::FellAt(t) => t.same(now),
+        }
+    }
+}
+
+impl Core {
+    fn shown_control(self) -> u8
+        ensures { λ r. ⌜ r ≡ shownControl self ⌝ }
+    {
+        bus::flag(self.flags.busy, BBSY)
+            | 0x55
+            | bus::flag(self.lines.drive.sda, SDAO)
+            | bus::flag(self.lines.drive.scl, SCLO)
+            | bus::flag(self.flags.reset, IICRST)
+    }
+
+    pub fn peek_at(self, register: Register) -> u8
+        ensures { λ r. ⌜ r ≡ peekAt register self ⌝ }
+    {
+        let frame = self.frame;
+        match register {
+            Register::ICCR1 => self.registers.control,
+            Register::ICCR2 => self.shown_control(),
+            Register::ICMR => {
+                self.registers.mode | 0x38 | frame.shown_count(self.registers.count)
+            }
+            Register::ICIER => self.registers.enable,
+            Register::ICSR => self.registers.status,
+            Register::SAR => self.registers.address,
+            Register::ICDRT => self.registers.tdr,
+            Register::ICDRR => self.registers.rdr,
+        }
+    }
+
+    // ICDRR was read.
+    pub fn taken(mut self, now: Time) -> Core
+        ensures { λ r. ⌜ r ≡ takenOf now self ⌝ }
+    {
+        let eighth_fall = self.eighth_fall;
+        let stale = self.flags.stale_release | eighth_fall.fell_at(now);
+        self.flags.stale_release = stale;
+        let status = self.registers.status & !RDRF;
+        self.registers.status = status;
+        let seen = self.registers.seen & !RDRF;
+        self.registers.seen = seen;
+        self
+    }
+
+    pub fn continued(mut self) -> Core
+        ensures { λ r. ⌜ r ≡ continuedOf self ⌝ }
+    {
+        let goes = (self.registers.control & MST != 0) & !self.flags.receive_stopped;
+        if goes {
+            self.flags.receive_enabled = true;
+            let last = self.registers.control & RCVD != 0;
+            let frame = self.frame;
+            return self.with_frame(frame.marked_in(last));
+        }
+        self
+    }
+
+    // ICSR was read.
+    pub fn note_status(mut self) -> Core
+        ensures { λ r. ⌜ r ≡ setSeen (self .registers .status) self ⌝ }
+    {
+        let status = self.registers.status;
+        self.registers.seen = status;
+        self
+    }
+}

@@ -1,0 +1,102 @@
+// What is due next: a condition, a frame, a clock, and the level that it shows.
+ghost use mathlib.Core.Path.{_≡_};
+ghost use Rattle.steps.specs.Ready.{clockDue, commandReady, frameDue, levelAt, lowHalfOf, nextFrameOf, ready, releasedLevel, showOf};
+use super::Core;
+use super::bits::ACKBT;
+use super::bits::FS;
+use super::bits::MST;
+use super::bits::NACKF;
+use super::bits::TRS;
+use frames::Frame;
+use frames::Framing;
+use frames::Phase;
+
+impl Core {
+    pub fn ready(self) -> bool
+        ensures { λ r. ⌜ r ≡ ready self ⌝ }
+    {
+        self.awake() & !self.flags.reset & !self.conditioned()
+    }
+
+    pub fn command_ready(self) -> bool
+        ensures { λ r. ⌜ r ≡ commandReady self ⌝ }
+    {
+        self.commanded() & (!self.framed() | !self.lines.filtered.scl)
+    }
+
+    fn frame_due(self) -> bool
+        ensures { λ r. ⌜ r ≡ frameDue self ⌝ }
+    {
+        let sync = self.registers.address & FS != 0;
+        let master = self.registers.control & MST != 0;
+        let transmit = self.registers.control & TRS != 0;
+        let can_transmit = transmit
+            & (master | self.flags.selected | sync)
+            & !(self.registers.status & NACKF != 0);
+        let can_receive = !transmit
+            & ((master & self.flags.receive_enabled) | (!master & (self.flags.selected | sync)));
+        !self.framed() & (self.flags.busy | sync) & (can_transmit | can_receive)
+    }
+
+    pub fn next_frame(self) -> Core
+        ensures { λ r. ⌜ r ≡ nextFrameOf self ⌝ }
+    {
+        if self.frame_due() {
+            self.begin_frame(false)
+        } else {
+            self
+        }
+    }
+
+    pub fn clock_due(self) -> bool
+        ensures { λ r. ⌜ r ≡ clockDue self ⌝ }
+    {
+        let clock_wait = self.clock_wait;
+        self.master() & !clock_wait.is_half() & !self.held() & !self.flags.synchronized_hold
+    }
+
+    pub fn level(self, f: Frame) -> bool
+        ensures { λ r. ⌜ r ≡ levelAt (f .phase) f self ⌝ }
+    {
+        let phase = f.phase;
+        match phase {
+            Phase::Data => f.data_level(),
+            Phase::Ack => f.transmit | (self.registers.enable & ACKBT != 0),
+            Phase::Done => f.transmit | (self.registers.enable & ACKBT != 0),
+        }
+    }
+
+    // SCL goes low; SDA changes only while filtered SCL is low.
+    pub fn low_half(mut self, level: bool) -> Core
+        ensures { λ r. ⌜ r ≡ lowHalfOf level self ⌝ }
+    {
+        self.lines.drive.scl = false;
+        if self.lines.filtered.scl {
+            return self;
+        }
+        self.lines.drive.sda = level;
+        self
+    }
+
+    fn released_level(self, f: Frame) -> bool
+        ensures { λ r. ⌜ r ≡ releasedLevel (f .phase) f self ⌝ }
+    {
+        let phase = f.phase;
+        match phase {
+            Phase::Data => f.data_level(),
+            Phase::Ack => self.registers.enable & ACKBT != 0,
+            Phase::Done => f.data_level(),
+        }
+    }
+
+    pub fn show(self) -> Core
+        ensures { λ r. ⌜ r ≡ showOf self ⌝ }
+    {
+        let frame = self.frame;
+        let Framing::InFrame(f) = frame else {
+            return self;
+        };
+        let level = self.released_level(f);
+        self.drive_sda(level)
+    }
+}
