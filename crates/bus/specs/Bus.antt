@@ -1,6 +1,6 @@
 -- Definitions: UM10204, the I2C-bus specification, on pairs of levels and on bytes. Each names its section.
 use Prim.Native.Nat.{ℕ, _*_, _%_}
-use mathlib.Core.Bool.{Bool, true, false, not, _&&_, Bool·beq}
+use mathlib.Core.Bool.{Bool, not, _&&_, Bool·beq}
 use lib.Dec.{eqb}
 use lib.Bits.{bitOr}
 use Rattle.bus.specs.declared.Levels.{Levels}

@@ -2,12 +2,11 @@
 use mathlib.Core.Path.{_≡_, refl, sym, ap, _∙_, subst}
 use mathlib.Core.Bool.{Bool, true, false, not, _||_, _&&_, cond}
 use Prim.Native.Nat.{ℕ, suc, _+_, _-_, _*_, _/_, _%_, _^_, _≤_, _<_}
-use native.Mathlib.Nat.{add-comm, add-mul-div-right, div-add-mod', div-lt-iff-lt-mul, le-div-iff-mul-le, le-of-suc-le-suc, mod-lt, mul-le-mul-left, mul-one, mul-zero, one-mul, pos-of-ne-zero, suc-mul}
+use native.Mathlib.Nat.{add-comm, add-mul-div-right, div-add-mod', div-lt-iff-lt-mul, le-div-iff-mul-le, le-of-suc-le-suc, mul-le-mul-left, mul-one, mul-zero, one-mul, pos-of-ne-zero, suc-mul}
 use native.Mathlib.Omega.{arith}
 use borrow.Author.Tests.{eqb-false, le-ltb, leb-true, lt-ltb, ltb-false}
 use lib.Dec.{eqb, leb, lit<, ltb}
 use lib.Pow.{pow-mono, pow-pos, shl-exact}
-use Rattle.time.specs.declared.Count.{Count}
 use Rattle.time.specs.declared.Count.the-variants.{Of, Refused}
 use Rattle.clocks.specs.Counts.{fits}
 use Rattle.clocks.specs.Prescaler.{outside}

@@ -8,7 +8,6 @@ use lib.Pow.{pow-lt, pow-pos}
 use lib.Count.{ones, ones-cat}
 use borrow.Author.Tests.{eq-eqb, ne-eqb}
 use Rattle.clocks.specs.Tap.{stageBelow}
-use Rattle.clocks.specs.declared.tap.Stage.{Stage}
 use Rattle.clocks.specs.declared.tap.Stage.the-variants.{At, NoStage}
 
 -- a power has one bit set

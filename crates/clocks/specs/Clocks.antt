@@ -1,13 +1,13 @@
 -- Definitions: the clock set (document 01, module 4; `Clocks` of clocks.rs). Refusal 1, a zero in any of its clocks, comes first.
 use Prim.Native.Nat.{ℕ, _+_, _*_, _/_, _%_}
-use mathlib.Core.Bool.{Bool, true, false, _&&_, _||_, cond}
+use mathlib.Core.Bool.{Bool, true, _&&_, _||_, cond}
 use lib.Dec.{eqb, ltb}
 use Rattle.time.specs.declared.Time.{Time}
 use Rattle.time.specs.declared.Clock.{Clock}
 use Rattle.time.specs.declared.Count.{Count}
 use Rattle.time.specs.declared.Count.the-variants.{Of, Refused}
 use Rattle.time.specs.declared.Moment.{Moment}
-use Rattle.time.specs.declared.Moment.the-variants.{At, Refused as Unset}
+use Rattle.time.specs.declared.Moment.the-variants.{Refused as Unset}
 use Rattle.time.specs.Clock.{zeroIn, afterOf}
 use Rattle.clocks.specs.declared.Frequencies.{Frequencies}
 use Rattle.clocks.specs.declared.Clocks.{Clocks}

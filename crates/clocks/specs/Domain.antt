@@ -1,6 +1,6 @@
 -- Definitions: a domain, one clock with its phase (document 01, module 3; domain.rs), its level and its half counts.
 use Prim.Native.Nat.{ℕ, _+_, _-_, _*_, _/_, _%_, _^_}
-use mathlib.Core.Bool.{Bool, true, false, not, _&&_, cond}
+use mathlib.Core.Bool.{Bool, true, not, _&&_, cond}
 use lib.Dec.{eqb, ltb}
 use Rattle.time.specs.declared.Time.{Time}
 use Rattle.time.specs.declared.Clock.{Clock}

@@ -1,6 +1,6 @@
 -- Definitions: a ripple divider (document 01, module 2; prescaler.rs), over its number of stages n. Stage s divides by 2 ^ s.
 use Prim.Native.Nat.{ℕ, _+_, _-_, _*_, _/_, _%_, _^_}
-use mathlib.Core.Bool.{Bool, true, false, _||_, cond}
+use mathlib.Core.Bool.{Bool, true, _||_, cond}
 use mathlib.Core.List.{List}
 use lib.Dec.{eqb, ltb}
 use lib.ListN.{getD, replicate}

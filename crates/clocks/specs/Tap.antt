@@ -1,6 +1,6 @@
 -- Definitions: the outputs of the clock set that can be counted (document 01, module 4; `Tap` of clocks.rs).
 use Prim.Native.Nat.{ℕ, zero, suc, _-_, _^_}
-use mathlib.Core.Bool.{Bool, true, false, _&&_, cond}
+use mathlib.Core.Bool.{Bool, _&&_, cond}
 use lib.Dec.{eqb, leb}
 use Rattle.clocks.specs.declared.tap.Source.{Source}
 use Rattle.clocks.specs.declared.tap.Source.the-variants.{System, Cpu, Watch, OnChip, Oscillator, Subclock}

@@ -1,7 +1,7 @@
 -- Definitions: a wait for a number of edges of a tap (document 01, module 4; `ClockWait` of clocks.rs). The time that the Rust caches in
 -- a running wait is left out; that it is refused where it can't be had is not.
 use Prim.Native.Nat.{ℕ, _+_, _-_}
-use mathlib.Core.Bool.{Bool, true, false, _&&_, cond}
+use mathlib.Core.Bool.{Bool, true, false, cond}
 use lib.Dec.{eqb, ltb}
 use Rattle.time.specs.declared.Time.{Time}
 use Rattle.time.specs.declared.Count.{Count}
@@ -10,7 +10,6 @@ use Rattle.time.specs.declared.Moment.{Moment}
 use Rattle.time.specs.declared.Moment.the-variants.{At as Set, Refused as Unset}
 use Rattle.time.specs.Time.{earlier, sinceOf}
 use Rattle.clocks.specs.declared.Clocks.{Clocks}
-use Rattle.clocks.specs.declared.Truth.{Truth}
 use Rattle.clocks.specs.declared.tap.Tap.{Tap}
 use Rattle.clocks.specs.declared.wait.WaitState.{WaitState}
 use Rattle.clocks.specs.declared.wait.WaitState.the-variants.{Running, Paused, Ready}

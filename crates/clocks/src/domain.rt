@@ -1,7 +1,7 @@
 // A domain: one clock of the set, running or held, with its counts, its level and its half counts.
 ghost use mathlib.Core.Path.{_≡_};
 ghost use Prim.Native.Nat.{_^_, _<_};
-ghost use Rattle.clocks.specs.Domain.{runningFrom, newDomain, shown, domainTime, domainTicks, lastTime, edgeOrLast, highBetween, levelHigh, halves, halvesOf, domainHalfTicks, oddEdge, domainHalfEdge};
+ghost use Rattle.clocks.specs.Domain.{runningFrom, newDomain, shown, domainTime, domainTicks, edgeOrLast, highBetween, levelHigh, halves, halvesOf, domainHalfTicks, oddEdge, domainHalfEdge};
 ghost use Rattle.time.specs.Clock.{zeroIn};
 use super::Truth;
 use super::counts::OVERFLOW;

@@ -1,7 +1,6 @@
 // The ripple dividers: prescaler S of 13 stages behind the system clock, prescaler W of 8 behind the watch clock. Stage s divides
 // by 2^s. The Rust has them as Prescaler<13> and Prescaler<8>.
 ghost use mathlib.Core.Path.{_≡_};
-ghost use mathlib.Core.Bool.{not};
 ghost use Prim.Native.Nat.{_+_, _-_, _%_, _^_, _≤_};
 ghost use lib.Dec.{ltb};
 ghost use Rattle.clocks.specs.Counts.{fits};

@@ -1,6 +1,6 @@
 // A wait for a number of edges of a tap: an obligation to count edges, not a delay in seconds.
 ghost use mathlib.Core.Path.{_≡_};
-ghost use Rattle.clocks.specs.Wait.{waitOf, kept, dated, startedBy, waitAfter, stateDeadline, waitDeadline, leftAt, pausedBy, waitPause, resumedAs, waitResume, waitValidate, madeDeadline, laterTarget, laterRunning, waitLaterEdge, upcoming, beforeEnd, edgesRunning, waitEdgesBefore, isPaused, movedTo, selectedBy, waitSelect};
+ghost use Rattle.clocks.specs.Wait.{waitOf, kept, dated, startedBy, waitAfter, waitDeadline, leftAt, pausedBy, waitPause, resumedAs, waitResume, waitValidate, madeDeadline, laterTarget, laterRunning, waitLaterEdge, upcoming, beforeEnd, edgesRunning, waitEdgesBefore, isPaused, movedTo, selectedBy, waitSelect};
 ghost use Rattle.clocks.specs.Tap.{sameTap};
 ghost use Rattle.clocks.specs.declared.wait.WaitState.the-variants.{Running, Paused};
 use super::Clocks;

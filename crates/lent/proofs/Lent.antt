@@ -11,7 +11,7 @@ use base.Fml.{Fml, fsep}
 use prog.Wp.{Heap}
 use ghost.Atoms.{Atoms}
 use contract.Monad.{fact, fact-mono}
-use types.Kit.{Goal, Given, Item, Seq, Step, step, ‵, _$_, fjoin}
+use types.Kit.{Goal, Given, Item, Step, step, ‵, _$_, fjoin}
 use denote.Laws.{Rel, Is, Makes, Shows, shows}
 use denote.RattleType.{RattleType}
 use denote.Plain.{uint-makes}

@@ -1,7 +1,6 @@
 // Plays traces over the peripheral (document 01, "The trace player"): a line a call in, a line an answer out.
 ghost use mathlib.Core.Path.{_≡_};
-ghost use mathlib.Core.List.{_++_};
-ghost use lib.ListN.{length, drop};
+ghost use lib.ListN.{length};
 ghost use Rattle.player.specs.Trace.{traceClocks, freshPlayer, partOf, runOf, over, progressOf, summaryOf};
 
 pub mod answers;

@@ -4,8 +4,6 @@
 // The file stdout isn't ours: `compare/plain-answers` makes it of data/ with the plain Rust player of compare/, which plays the unmodified
 // sources, and adds the line of the three numbers. The traces of random calls are `make-trace 1 600`, `2 600` and `3 600` of compare/, the hostile one
 // is such a trace with bytes changed, and those of whole transfers are the ones of examples/.
-ghost use Prim.Native.Nat.{_≤_};
-ghost use lib.ListN.{length};
 
 fn text(bytes: &[u8]) {
     io::write_all(1, bytes);

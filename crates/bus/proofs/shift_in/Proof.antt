@@ -1,9 +1,6 @@
 use borrow.Author.Needs.{needs}
 use Rattle.bus.proofs.shift_in.Statement.{statement}
 use Rattle.bus.proofs.shift_in.Tie as tie
-use Rattle.bus.proofs.shift_in.Reads as reads
-use Rattle.bus.proofs.shift_in.Lts as lts
-use Rattle.bus.proofs.flag.Reads as flag-reads
 
 flag-requires : tie.Need-flag-requires
 flag-requires c κs = search needs

@@ -6,7 +6,6 @@ use native.Mathlib.Omega.{arith}
 use lib.Count.{trailingZeros}
 use Rattle.words.specs.Powers.{one-set}
 use Rattle.words.proofs.Shifts.{scaled-power}
-use borrow.Author.Needs.{needs}
 use Rattle.words.proofs.scaled_shift.Statement.{statement}
 use Rattle.words.proofs.scaled_shift.Tie as tie
 

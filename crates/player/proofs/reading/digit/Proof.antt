@@ -5,7 +5,6 @@ use native.Mathlib.Omega.{arith}
 use lib.Dec.{T, ltb, leb}
 use borrow.Author.Tests.{leb-true, leb-false, ltb-true, ltb-false, lt-ltb, le-ltb}
 use Rattle.player.specs.Reading.{digitOf}
-use borrow.Author.Needs.{needs}
 use Rattle.player.proofs.reading.digit.Statement.{statement}
 use Rattle.player.proofs.reading.digit.Tie as tie
 
