@@ -6,7 +6,7 @@ use mathlib.Core.Bool.{true, false}
 use mathlib.Core.List.{[], _∷_}
 use Prim.Native.Nat.{ℕ, _-_, _^_}
 use Rattle.iic.specs.declared.Pins.the-variants.{NoPins, Driven}
-use Rattle.iic.specs.State.{levels}
+use Rattle.steps.specs.State.{levels}
 use Rattle.player.specs.declared.Verb.{Verb}
 use Rattle.player.specs.declared.Verb.the-variants.{Read, Write, Pins, Gate}
 use Rattle.player.specs.declared.Call.{Call}
