@@ -1,4 +1,4 @@
--- Definitions: masks of a byte, as the Rust tests and sets flags (`x & M != 0`, `x |= M`).
+-- Definitions: masks of a byte, as iic.rs tests and sets flags (`x & M != 0`, `x |= M`).
 use Prim.Native.Nat.{ℕ}
 use mathlib.Core.Bool.{Bool, not, cond}
 use lib.Dec.{eqb}

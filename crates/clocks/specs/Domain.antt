@@ -1,4 +1,5 @@
--- Definitions: a domain, one clock with its phase (document 01, module 3; domain.rs), its level and its half counts.
+-- Definitions: a domain, one clock with its phase (document 01, module 3; domain.rs), its level and its half counts (module 4;
+-- clocks.rs, `high`, `system_half_ticks`, `system_half_edge`).
 use Prim.Native.Nat.{ℕ, _+_, _-_, _*_, _/_, _%_, _^_}
 use mathlib.Core.Bool.{Bool, true, not, _&&_, cond}
 use lib.Dec.{eqb, ltb}
@@ -23,6 +24,7 @@ use Rattle.clocks.specs.Counts.{withCount, withTime, withTruth}
 abbrev pub runningFrom : Time → Clock → Domain
 runningFrom now c = record { clock = c; running = true; «held_at» = now }
 
+-- a new clock handed on, or its refusal (the Rust's `?`)
 abbrev pub withClock : NewClock → (Clock → NewDomain) → NewDomain
 withClock (MadeClock c) f = f c
 withClock (UnmadeClock k) f = Unmade k

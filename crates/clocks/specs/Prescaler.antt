@@ -13,7 +13,7 @@ use Rattle.clocks.specs.declared.prescaler.PrescalerS.{PrescalerS}
 use Rattle.clocks.specs.declared.prescaler.PrescalerW.{PrescalerW}
 use Rattle.clocks.specs.Counts.{fits}
 
--- a divider as it is made: running, at phase 0
+-- `Prescaler::new`: running, at phase 0, with nothing given yet by its 13 stages or 8
 abbrev pub fresh : Divider
 fresh = record { anchor = 0; phase = 0; running = true }
 

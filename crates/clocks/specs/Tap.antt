@@ -10,6 +10,7 @@ use Rattle.clocks.specs.declared.tap.Stage.the-variants.{At, NoStage}
 use Rattle.clocks.specs.declared.tap.Route.{Route}
 use Rattle.clocks.specs.declared.tap.Route.the-variants.{ThroughS, ThroughW, Direct}
 
+-- a source with a divider, as `Tap::system` and its like make it
 abbrev pub tapOf : Source → ℕ → Tap
 tapOf s d = record { source = s; divide = d }
 
@@ -25,6 +26,7 @@ sourceNumber OnChip = 3
 sourceNumber Oscillator = 4
 sourceNumber Subclock = 5
 
+-- the equality of `Tap`
 unfoldable pub sameTap : Tap → Tap → Bool
 sameTap a b = eqb (sourceNumber (a .source)) (sourceNumber (b .source)) && eqb (a .divide) (b .divide)
 
@@ -55,6 +57,7 @@ unfoldable pub routeW : Stage → Route
 routeW NoStage = Direct
 routeW (At s) = cond (within 3 10 s) (ThroughW (s - 2)) Direct
 
+-- document 01, module 4: the other sources have no prescaler
 abbrev pub routeBy : Source → ℕ → Route
 routeBy System d = routeS (stageOf d)
 routeBy Watch d = routeW (stageOf d)

@@ -56,7 +56,7 @@ callOf (byValue x) = x
 callOf (lentRead a now) = read a now
 callOf (lentWrite a value now) = write a value now
 
--- ## Answers
+-- ## Answers (document 01, its last sentence: a number and values for each case of an answer)
 
 -- a value of the call's kind, or a refusal by document 01's number
 pub data Answer : Type 0 where

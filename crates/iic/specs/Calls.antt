@@ -1,4 +1,5 @@
--- Definitions: the eleven calls. Each decides the answer and the whole next state, refused or not (document 01, demand 2).
+-- Definitions: the eleven calls (iic.rs, each the function of its name). Each decides the answer and the whole next state, refused or not
+-- (document 01, demand 2).
 use Prim.Native.Nat.{ℕ}
 use Rattle.bus.specs.Bus.{sameLevels}
 use Rattle.bus.specs.declared.Levels.{Levels}
@@ -28,7 +29,7 @@ use Rattle.waits.specs.Ends.{halfEnd, sooner, tapRefusal, waitEnd}
 use lib.Dec.{eqb}
 use mathlib.Core.Bool.{Bool, Bool·beq, _&&_, cond, false, not}
 
--- ## Refusals that stand before a call: 1, then 9, then 10, with the state unchanged; 0 for none
+-- ## Refusals that stand before a call (document 01, their order): 1, then 9, then 10, with the state unchanged; 0 for none
 
 abbrev pub guardBy : Bool → Iic → ℕ
 guardBy zero s = cond zero 1 (cond (not (rangesHold (s .core))) 9 (cond (not (progressHolds (s .core))) 10 0))

@@ -1,4 +1,5 @@
--- Definitions: what each of the four waits brings when it fires: the filter, the setup, the monitor, the clock (`clock_step` of iic.rs).
+-- Definitions: what each of the four waits brings when it fires: the filter, the setup, the monitor, the clock (iic.rs, `advance`,
+-- `clock_step`).
 use Rattle.clocks.specs.declared.Clocks.{Clocks}
 use Rattle.iic.specs.Answers.{andThen, fine, refused}
 use Rattle.iic.specs.Edges.{filteredEdgesOf}

@@ -23,7 +23,7 @@ use Rattle.waits.specs.declared.NewHalf.the-variants as half
 use Rattle.waits.specs.declared.NewHalf.{NewHalf}
 use mathlib.Core.Bool.{Bool, _&&_, cond, not}
 
--- ## Starting
+-- ## Starting: a wait that was made is the state's, a refused one leaves the state at that point
 
 abbrev pub clockFrom : NewHalf → Iic → Stepped
 clockFrom (half.Made w) s = fine (onCore (setClockWait (Half w)) s)
@@ -41,13 +41,15 @@ abbrev pub setupFrom : NewWait → Iic → Stepped
 setupFrom (wait.Made w) s = fine (setSetupWait (Waiting w) s)
 setupFrom (wait.Refused n) s = refused n s
 
--- half a clock from now on
+-- half a clock from now on (iic.rs, `period`)
 unfoldable pub startClockOf : Time → Clocks → Iic → Stepped
 startClockOf now k s = clockFrom (halfAfter now (periodOf (s .core .registers .control)) k) s
 
+-- iic.rs, `clock_step`: until a rising clock is looked at
 unfoldable pub startMonitorOf : Time → Clocks → Iic → Stepped
 startMonitorOf now k s = monitorFrom (halfAfter now (monitorHalves (s .core .registers .control)) k) s
 
+-- iic.rs, `release_hold`: before a slave lets SCL go
 unfoldable pub startSetupOf : Time → Clocks → Iic → Stepped
 startSetupOf now k s = setupFrom (waitAfter now (setupCycles (s .core .registers .control)) (systemTap 1) k) s
 

@@ -1,4 +1,4 @@
--- Definitions: what the laws on a trace in parts (`SplitLaws`) speak of.
+-- Definitions: what the laws on a trace in parts (`SplitLaws`) speak of. No paper has parts: document 01 speaks of whole traces.
 use mathlib.Core.Path.{_≡_}
 use mathlib.Core.List.{List, [], _∷_, _++_}
 use Prim.Native.Nat.{ℕ, suc, _+_, _-_, _<_}

@@ -56,6 +56,7 @@ takenOf now s =
     setStatus (bitAnd (s .registers .status) (0xff - RDRF)) (setSeen (bitAnd (s .registers .seen) (0xff - RDRF))
     (setStaleRelease (s .flags .«stale_release» || fellNow (s .«eighth_fall») now) s))
 
+-- a master's receive goes on, and RCVD says whether the byte under way is its last
 unfoldable pub continuedOf : Core → Core
 continuedOf s =
     cond (master s && not (s .flags .«receive_stopped»))
@@ -131,5 +132,6 @@ giveDataOf value s =
     setTdr (ordered (has (s .registers .mode) MLS) value)
     (setStatus (bitAnd (s .registers .status) (0xff - (TDRE + TEND))) (setSeen (bitAnd (s .registers .seen) (0xff - (TDRE + TEND))) s))
 
+-- ICCR2: a start or a stop is asked for, and not lost
 abbrev pub takesCommand : ℕ → Core → Bool
 takesCommand value s = givesCommand value s && not (earlyStop value s)

@@ -1,4 +1,5 @@
--- Definitions: what a core must meet, and what it asks of its host (document 01, Refusals; iic.rs, `validate`, `interrupt`).
+-- Definitions: what a core must meet, and what it asks of its host (document 01, "Refused because of the state"; iic.rs, `validate`,
+-- `interrupt_with_enable`).
 use Prim.Native.Nat.{ℕ}
 use Rattle.bus.specs.Bits.{flag, has}
 use Rattle.frames.specs.Parts.{progressIn}
@@ -14,21 +15,24 @@ use lib.Bits.{bitAnd, bitOr}
 use lib.Dec.{eqb, ltb}
 use mathlib.Core.Bool.{Bool, _&&_, _||_, cond, not, true}
 
--- ## Refusals that stand before a call: 1, then 9, then 10, with the state unchanged; 0 for none
+-- ## What 9 and 10 ask, before a call and in `validate`
 
 -- document 01, 9: a count above 7, or mode bits outside c0
 abbrev pub rangesHold : Core → Bool
 rangesHold s = ltb (s .registers .count) 8 && eqb (bitAnd (s .registers .mode) 0x3f) 0
 
+-- document 01, 10
 abbrev pub progressHolds : Core → Bool
 progressHolds s = progressIn (s .frame)
 
--- ## `validate`: 9, 10, 11, 12, or 0
+-- ## What `validate` asks beside that
 
+-- document 01, 9: an eighth fall that isn't later than now
 abbrev pub fellBy : EighthFall → Time → Bool
 fellBy NoFall now = true
 fellBy (FellAt t) now = not (earlier now t)
 
+-- document 01, 12: a half count within 1023 of the top
 abbrev pub halvesRefusal : Core → ℕ
 halvesRefusal s = cond (shortHalf (s .«clock_wait») && shortHalf (s .«monitor_wait»)) 0 12
 

@@ -1,4 +1,5 @@
--- Definitions: the noise filter, and the levels as given (document 01, Registers and steps; iic.rs, `input_pins`, `advance`).
+-- Definitions: the noise filter, and the levels as given (document 01, Registers and steps; iic.rs, `input_pins`, `advance`,
+-- `schedule_filter`).
 use Rattle.bus.specs.Bus.{sameLevels}
 use Rattle.bus.specs.declared.Levels.{Levels}
 use Rattle.steps.specs.Setters.{setFiltered, setLatch}

@@ -54,7 +54,7 @@ levelAt Done f s = f .transmit || has (s .registers .enable) ACKBT
 unfoldable pub lowHalfOf : Bool → Core → Core
 lowHalfOf level s = setDrive (levels false (cond (s .lines .filtered .scl) (s .lines .drive .sda) level)) s
 
--- ## `release_hold`: a master waits half a clock, a slave its setup wait; then SDA as the frame has it
+-- ## `release_hold`: SDA as the frame has it
 
 abbrev pub releasedLevel : Phase → Frame → Core → Bool
 releasedLevel Data f s = dataLevel f

@@ -55,7 +55,7 @@ defaultCore = record {
   «monitor_wait» = NoHalf;
 }
 
--- ## Tests on the registers
+-- ## Tests on the registers (iic.rs, `enabled`, `master`, `transmit`, `synchronous`)
 
 abbrev pub enabled : Core → Bool
 enabled s = has (s .registers .control) ICE
@@ -70,7 +70,7 @@ transmits s = has (s .registers .control) TRS
 abbrev pub synchronous : Core → Bool
 synchronous s = has (s .registers .address) FS
 
--- enabled and clocked
+-- enabled and clocked (iic.rs, `observes_pins`)
 abbrev pub awake : Core → Bool
 awake s = s .flags .gate && enabled s
 

@@ -1,4 +1,4 @@
--- Definitions: how waits pause, resume and end (document 01, `advance` and its refusals 11 and 12; iic.rs, `set_gate`, `deadline`, `validate`).
+-- Definitions: how waits pause, resume and end (document 01, `advance`, and refusals 11 and 12; iic.rs, `set_gate`, `deadline`, `validate`).
 use Prim.Native.Nat.{ℕ, _-_, _^_}
 use mathlib.Core.Bool.{Bool, true, false, cond}
 use lib.Dec.{eqb, ltb}

@@ -1,4 +1,5 @@
--- Definitions: the lengths of the waits, by ICCR1 (document 01, Registers and steps; the manual's table of transfer rates).
+-- Definitions: the lengths of the waits, by ICCR1 (document 01, Registers and steps; iic.rs, `period`, `clock_step`, `release_hold`; the manual's
+-- table of transfer rates).
 use Prim.Native.Nat.{ℕ, _*_, _/_}
 use mathlib.Core.Bool.{cond}
 use mathlib.Core.List.{List, [], _∷_}

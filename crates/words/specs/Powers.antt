@@ -1,4 +1,4 @@
--- A number with one bit set is the power of two of its trailing zeros. Assumes nothing.
+-- Laws: a number with one bit set is the power of two of its trailing zeros. Assumes nothing.
 use mathlib.Core.Path.{_≡_, refl, sym, ap, _∙_, subst}
 use mathlib.Core.Logic.{⊎-elim}
 use Prim.Native.Nat.{ℕ, zero, suc, _+_, _*_, _/_, _%_, _^_, _<_}

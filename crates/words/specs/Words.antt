@@ -1,4 +1,5 @@
--- Definitions: the values of numbers of two and three words, and what a division gives (document 01, module 1: products of `widening_mul` in words).
+-- Definitions: the values of numbers of two and three words, and what a division gives (document 01, "What takes another form":
+-- products of `widening_mul` in words).
 use mathlib.Core.Path.{_≡_}
 use mathlib.Core.Bool.{cond}
 use Prim.Native.Nat.{ℕ, _+_, _*_, _/_, _%_, _^_, _<_}
