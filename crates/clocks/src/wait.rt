@@ -178,7 +178,7 @@ impl ClockWait {
         }
     }
 
-    // The wait as it is, and why it was not changed.
+    // The wait, and the number of a refusal, 0 for none.
     fn kept(self, refusal: u8) -> Waited
         ensures { λ r. ⌜ r ≡ kept refusal self ⌝ }
     {

@@ -1,4 +1,4 @@
-// How steps end, and what follows a step that went through.
+// How steps end, and the answers of `read` and `input_pins`.
 ghost use mathlib.Core.Path.{_≡_};
 ghost use Rattle.iic.specs.State.{setCore};
 ghost use Rattle.iic.specs.Answers.{fine, refused, answered, noticed, byteOf, truthOf};

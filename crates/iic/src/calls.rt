@@ -1,4 +1,4 @@
-// The eleven calls of the peripheral's host, each with its answer and the next state.
+// The eleven calls of the peripheral's host, each with its answer and, where it may change the state, the next one.
 ghost use mathlib.Core.Path.{_≡_};
 ghost use Rattle.iic.specs.Answers.{guarded, andThen};
 ghost use Rattle.iic.specs.Access.{readAt};

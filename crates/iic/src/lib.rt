@@ -1,4 +1,4 @@
-// The I2C peripheral (IIC2) of the H8/38602R: its state, its steps and the eleven calls of its host, by value.
+// The I2C peripheral (IIC2) of the H8/38602R: its state, its steps in time and the eleven calls of its host, by value.
 pub mod access;
 pub mod answers;
 pub mod calls;
@@ -13,6 +13,7 @@ use clocks::Truth;
 use steps::Core;
 use waits::MaybeWait;
 
+// The core, and the two waits that no step of the core touches.
 pub struct Iic {
     pub core: Core,
     pub filter_wait: MaybeWait,

@@ -95,7 +95,7 @@ impl Iic {
         self.with_core(core).start_clock(now, clocks)
     }
 
-    // A level is still on its way through the filter.
+    // The filter's wait starts where a level is still on its way through the filter.
     pub(crate) fn schedule_filter(self, now: Time, clocks: Clocks) -> Stepped
         ensures { λ r. ⌜ r ≡ scheduleFilterOf now clocks self ⌝ }
     {

@@ -1,4 +1,4 @@
-// What a state must meet, and what it asks of its host.
+// What a core must meet, and whether it asks its host for an interrupt.
 ghost use mathlib.Core.Path.{_≡_};
 ghost use Rattle.steps.specs.Checks.{fellBy, halvesRefusal, interruptBy, interruptWith, progressHolds, rangesHold};
 use super::Core;
@@ -11,6 +11,7 @@ use super::bits::STOP;
 use time::Time;
 
 impl EighthFall {
+    // Not later than now.
     pub fn fell_by(self, now: Time) -> bool
         ensures { λ r. ⌜ r ≡ fellBy self now ⌝ }
     {
@@ -22,12 +23,14 @@ impl EighthFall {
 }
 
 impl Core {
+    // The count is at most 7, and the mode has no bits outside c0.
     pub fn ranges_hold(self) -> bool
         ensures { λ r. ⌜ r ≡ rangesHold self ⌝ }
     {
         (self.registers.count < 8) & (self.registers.mode & 0x3f == 0)
     }
 
+    // A frame has as many bits to go as its phase allows.
     pub fn progress(self) -> bool
         ensures { λ r. ⌜ r ≡ progressHolds self ⌝ }
     {
@@ -46,13 +49,14 @@ impl Core {
             | ((enable & NAKIE != 0) & (self.registers.status & mask != 0))
     }
 
-    // The same, with further enables that the host retained.
+    // Whether an interrupt is asked for, with further enables that the host retained.
     pub fn interrupt_with_enable(self, retained: u8) -> bool
         ensures { λ r. ⌜ r ≡ interruptWith self retained ⌝ }
     {
         self.interrupt_by(self.registers.enable | retained)
     }
 
+    // 0, or refusal 12 for a half count near the top.
     pub fn halves_refusal(self) -> u8
         ensures { λ r. ⌜ r ≡ halvesRefusal self ⌝ }
     {

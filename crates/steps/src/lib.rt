@@ -1,4 +1,4 @@
-// What the I2C peripheral (IIC2) of the H8/38602R has beside its filter's and its setup wait, and the steps on it that need no clock.
+// The state of the I2C peripheral (IIC2) of the H8/38602R but for the waits of its filter and of its setup, and the steps on it that need no clock.
 pub mod bits;
 pub mod checks;
 pub mod conditions;
