@@ -1,5 +1,5 @@
--- Laws: every call that isn't refused keeps the invariant of a host or makes it. A call either ends in a kick, or puts the peripheral to
--- sleep, or touches nothing that a kick looks at; or it is a write that lifts the reset.
+-- Laws: every call that isn't refused keeps the invariant of a host or makes it. A call either ends in a kick, or leaves the
+-- peripheral off, gated off or in reset, or touches nothing that a kick looks at; or it is a write that lifts the reset.
 use Prim.Native.Nat.{ℕ}
 use mathlib.Core.Bool.{Bool, true, false, not, _&&_, _||_, cond, Bool·beq, true≢false, and-false}
 use mathlib.Core.Path.{_≡_, refl, sym, _∙_}
@@ -61,7 +61,7 @@ setup-leaves : (P : Iic → Type 0) (w : NewWait) (s : Iic) → ((m : MaybeWait)
 setup-leaves P (wait.Made v) s h = h (Waiting v)
 setup-leaves P (wait.Refused n) s h = tt
 
--- ## Asleep
+-- ## Off, gated off or in reset
 
 asleep : (g e r : Bool) (c : Bool) → (g && e) ≡ false → (g && e && r && c) ≡ false
 asleep true true r c h = absurd (true≢false h)

@@ -54,7 +54,7 @@ type-clocks = Ck′.mir
 pub mir-P : T.the-row .mir ≡ type-P ∷ []
 mir-P = refl
 
--- the fields of what the core returns: an answer and the state
+-- the fields of what a call by value returns: an answer and the state
 abbrev pub result-of : Ty → Ty → Tys
 result-of τA τP = tcons τA (tcons τP tnil)
 

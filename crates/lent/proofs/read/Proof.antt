@@ -70,7 +70,7 @@ use Rattle.lent.proofs.Lent.{type-P, type-time, type-clocks, type-byte,
 abbrev stayed : Stays (lent.ended .signature .params) (lent.ended .kept)
 stayed = (stay-ref (0 ∷ []) tt (plain (λ _. T.the-row)), (stay-none (λ _. u16) yes, (stay-none (λ _. Tm.the-row) yes, (stay-none (λ _. Ck.the-row) yes, tt))))
 
--- where the fields of what the core returned stand
+-- where the fields of what the call by value returned stand
 abbrev type-S : Ty
 type-S = St′.mir
 
@@ -95,7 +95,7 @@ lent-fn ν named-P τP τA τ2 τ3 = record {
       return)));
 }
 
--- what the core returned is a struct of one value a field
+-- what the call by value returned is a struct of one value a field
 abbrev Parts : Rel St.the-row
 Parts r vs = (a : Val) × (s : Val) × (vs ≡ vstruct (vcons a (vcons s vnil)) ∷ []) × Is An.the-row (r .answer) (a ∷ []) × Is T.the-row (r .state) (s ∷ [])
 
