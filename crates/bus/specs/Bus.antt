@@ -37,7 +37,3 @@ isRead b = has b 1
 -- 3.1.13, general call: the address byte 0000 0000
 abbrev pub isGeneralCall : ℕ → Bool
 isGeneralCall b = eqb b 0
-
--- 3.1.15, START byte: 0000 0001, which nobody may acknowledge
-abbrev pub isStartByte : ℕ → Bool
-isStartByte b = eqb b 1

@@ -1,19 +1,12 @@
 // The I2C bus as UM10204 describes it: start and stop on two successive pairs of levels, the order of a byte's bits, acknowledge.
 ghost use mathlib.Core.Path.{_≡_};
-ghost use Rattle.bus.specs.Bits.{has, flag};
-ghost use Rattle.bus.specs.Bus.{sameLevels, isStart, isStop, firstBit, shiftIn, isAcknowledge, isRead, isGeneralCall, isStartByte};
+ghost use Rattle.bus.specs.Bits.{flag};
+ghost use Rattle.bus.specs.Bus.{sameLevels, isStart, isStop, firstBit, shiftIn, isAcknowledge, isRead, isGeneralCall};
 
 // The levels of the two lines; true is high.
 pub struct Levels {
     pub scl: bool,
     pub sda: bool,
-}
-
-// Whether some bit of the mask is set.
-pub fn has(byte: u8, mask: u8) -> bool
-    ensures { λ r. ⌜ r ≡ has byte mask ⌝ }
-{
-    byte & mask != 0
 }
 
 // The mask where the test holds, else nothing.
@@ -76,11 +69,4 @@ pub fn is_general_call(byte: u8) -> bool
     ensures { λ r. ⌜ r ≡ isGeneralCall byte ⌝ }
 {
     byte == 0
-}
-
-// Whether an address byte is the START byte, which nobody may acknowledge.
-pub fn is_start_byte(byte: u8) -> bool
-    ensures { λ r. ⌜ r ≡ isStartByte byte ⌝ }
-{
-    byte == 1
 }

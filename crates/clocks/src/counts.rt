@@ -6,6 +6,8 @@ use time::Count;
 
 pub const OVERFLOW: u8 = 7;
 
+pub const REVERSED: u8 = 8;
+
 pub fn checked_add(a: u64, b: u64) -> Count
     ensures { λ r. ⌜ r ≡ fits (a + b) ⌝ }
 {

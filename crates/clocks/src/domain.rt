@@ -4,14 +4,13 @@ ghost use Prim.Native.Nat.{_^_, _<_};
 ghost use Rattle.clocks.specs.Domain.{runningFrom, newDomain, shown, domainTime, domainTicks, edgeOrLast, highBetween, levelHigh, halves, halvesOf, domainHalfTicks, oddEdge, domainHalfEdge};
 ghost use Rattle.time.specs.Clock.{zeroIn};
 use super::Truth;
+use super::ZERO_FREQUENCY;
 use super::counts::OVERFLOW;
 use time::Clock;
 use time::Count;
 use time::Moment;
 use time::NewClock;
 use time::Time;
-
-const ZERO_FREQUENCY: u8 = 1;
 
 pub struct Domain {
     pub clock: Clock,

@@ -7,14 +7,13 @@ ghost use Rattle.clocks.specs.Counts.{fits};
 ghost use Rattle.clocks.specs.Prescaler.{fresh, freshS, freshW, outside, elapsed, crossed, stageCrossings, stageTicks, stageHigh, parentEdge, stageEdge};
 use super::Truth;
 use super::counts::OVERFLOW;
+use super::counts::REVERSED;
 use super::counts::checked_add;
 use super::counts::saturating_sub;
 use super::counts::scaled_sum;
 use time::Count;
 
 const BAD_STAGE: u8 = 3;
-
-const REVERSED: u8 = 8;
 
 // What the two prescalers share: the parent's count when the phase was settled, the phase then, and whether it counts.
 pub struct Divider {

@@ -7,14 +7,13 @@ use super::Clocks;
 use super::Truth;
 use super::ZERO_DIVIDER;
 use super::ZERO_FREQUENCY;
+use super::counts::REVERSED;
 use super::counts::checked_add;
 use super::counts::saturating_sub;
 use super::tap::Tap;
 use time::Count;
 use time::Moment;
 use time::Time;
-
-const REVERSED: u8 = 8;
 
 pub enum WaitState {
     Running(u64),

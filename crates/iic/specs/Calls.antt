@@ -32,7 +32,7 @@ use mathlib.Core.Bool.{Bool, Bool·beq, _&&_, cond, false, not}
 -- ## Refusals that stand before a call (document 01, their order): 1, then 9, then 10, with the state unchanged; 0 for none
 
 abbrev pub guardBy : Bool → Iic → ℕ
-guardBy zero s = cond zero 1 (cond (not (rangesHold (s .core))) 9 (cond (not (progressHolds (s .core))) 10 0))
+guardBy z s = cond z 1 (cond (not (rangesHold (s .core))) 9 (cond (not (progressHolds (s .core))) 10 0))
 
 unfoldable pub guardOf : Iic → Clocks → ℕ
 guardOf s k = guardBy (hasZero k) s

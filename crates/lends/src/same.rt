@@ -1,7 +1,5 @@
 // Whether two answers, or two states, are equal in every field.
 use bus::same_levels;
-use clocks::tap::Source;
-use clocks::tap::Tap;
 use clocks::wait::ClockWait;
 use clocks::wait::WaitState;
 use frames::Frame;
@@ -141,10 +139,6 @@ fn hold_number(hold: Hold) -> u8 {
     }
 }
 
-fn same_times(a: Time, b: Time) -> bool {
-    (a.seconds == b.seconds) & (a.fraction == b.fraction)
-}
-
 fn same_falls(a: EighthFall, b: EighthFall) -> bool {
     match a {
         EighthFall::NoFall => match b {
@@ -153,26 +147,9 @@ fn same_falls(a: EighthFall, b: EighthFall) -> bool {
         },
         EighthFall::FellAt(x) => match b {
             EighthFall::NoFall => false,
-            EighthFall::FellAt(y) => same_times(x, y),
+            EighthFall::FellAt(y) => x.same(y),
         },
     }
-}
-
-fn source_number(source: Source) -> u8 {
-    match source {
-        Source::System => 0,
-        Source::Cpu => 1,
-        Source::Watch => 2,
-        Source::OnChip => 3,
-        Source::Oscillator => 4,
-        Source::Subclock => 5,
-    }
-}
-
-fn same_taps(a: Tap, b: Tap) -> bool {
-    let p = a.source;
-    let q = b.source;
-    (source_number(p) == source_number(q)) & (a.divide == b.divide)
 }
 
 fn same_running(target: u64, b: WaitState) -> bool {
@@ -195,7 +172,7 @@ fn same_ready(t: Time, b: WaitState) -> bool {
     match b {
         WaitState::Running(_) => false,
         WaitState::Paused(_) => false,
-        WaitState::Ready(y) => same_times(t, y),
+        WaitState::Ready(y) => t.same(y),
     }
 }
 
@@ -210,7 +187,7 @@ fn same_wait_states(a: WaitState, b: WaitState) -> bool {
 fn same_clock_waits(a: ClockWait, b: ClockWait) -> bool {
     let p = a.state;
     let q = b.state;
-    same_taps(a.tap, b.tap) & same_wait_states(p, q)
+    a.tap.same(b.tap) & same_wait_states(p, q)
 }
 
 fn same_waits(a: MaybeWait, b: MaybeWait) -> bool {
