@@ -5,6 +5,8 @@ use Rattle.iic.specs.Answers.{andThen, fine, refused}
 use Rattle.iic.specs.Edges.{filteredEdgesOf}
 use Rattle.iic.specs.State.{onCore, setFilterWait, setSetupWait}
 use Rattle.iic.specs.Waiting.{scheduleFilterOf, startClockOf, startMonitorOf, turnClockOf}
+use Rattle.iic.specs.declared.Ended.the-variants as ended
+use Rattle.iic.specs.declared.Ended.{Ended}
 use Rattle.iic.specs.declared.Iic.{Iic}
 use Rattle.iic.specs.declared.Stepped.{Stepped}
 use Rattle.steps.specs.Conditions.{clockedOf, isStartHold}
@@ -44,6 +46,16 @@ abbrev pub firing : Due → Iic → Stepped → Stepped
 firing due.Now s o = o
 firing due.NotNow s o = fine s
 firing (due.Refused n) s o = refused n s
+
+-- the same after a step: nothing is due after a refusal
+abbrev pub dueAfter : Ended → Due → Due
+dueAfter ended.Finished d = d
+dueAfter (ended.Refused n) d = due.NotNow
+
+abbrev pub unfired : Due → Stepped → Stepped
+unfired due.Now o = o
+unfired due.NotNow o = o
+unfired (due.Refused n) o = refused n (o .state)
 
 unfoldable pub filterFiresOf : Time → Clocks → Iic → Stepped
 filterFiresOf now k s =

@@ -1,12 +1,9 @@
-// How steps end, and the answers of `read` and `input_pins`.
+// How steps end.
 ghost use mathlib.Core.Path.{_≡_};
-ghost use Rattle.iic.specs.State.{setCore};
-ghost use Rattle.iic.specs.Answers.{fine, refused, answered, noticed, byteOf, truthOf};
+ghost use Rattle.iic.specs.Answers.{fine, refused, wentOn, withCore, byteOf, truthOf};
 use super::Byte;
 use super::Ended;
 use super::Iic;
-use super::Noticed;
-use super::ReadOut;
 use super::Stepped;
 use clocks::Truth;
 use steps::Core;
@@ -21,12 +18,6 @@ impl Iic {
         }
     }
 
-    pub(crate) fn finished_with(self, core: Core) -> Stepped
-        ensures { λ r. ⌜ r ≡ fine (setCore core self) ⌝ }
-    {
-        self.with_core(core).fine()
-    }
-
     pub(crate) fn refused(self, refusal: u8) -> Stepped
         ensures { λ r. ⌜ r ≡ refused refusal self ⌝ }
     {
@@ -38,6 +29,7 @@ impl Iic {
 }
 
 impl Ended {
+    // The answer of `read`.
     pub(crate) fn byte(self, value: u8) -> Byte
         ensures { λ r. ⌜ r ≡ byteOf self value ⌝ }
     {
@@ -47,6 +39,7 @@ impl Ended {
         }
     }
 
+    // The answer of `input_pins`.
     pub(crate) fn truth(self, value: bool) -> Truth
         ensures { λ r. ⌜ r ≡ truthOf self value ⌝ }
     {
@@ -58,27 +51,23 @@ impl Ended {
 }
 
 impl Stepped {
-    // The answer of `read`.
-    pub(crate) fn answered(self, value: u8) -> ReadOut
-        ensures { λ r. ⌜ r ≡ answered self value ⌝ }
+    // Whether the next step is taken: the Rust's `?`.
+    pub(crate) fn went_on(self) -> bool
+        ensures { λ r. ⌜ r ≡ wentOn (self .ended) ⌝ }
     {
         let ended = self.ended;
-        let state = self.state;
-        ReadOut {
-            answer: ended.byte(value),
-            state,
+        match ended {
+            Ended::Finished => true,
+            Ended::Refused(_) => false,
         }
     }
 
-    // The answer of `input_pins`.
-    pub(crate) fn noticed(self, value: bool) -> Noticed
-        ensures { λ r. ⌜ r ≡ noticed self value ⌝ }
+    pub(crate) fn with_core(mut self, core: Core) -> Stepped
+        ensures { λ r. ⌜ r ≡ withCore core self ⌝ }
     {
-        let ended = self.ended;
-        let state = self.state;
-        Noticed {
-            answer: ended.truth(value),
-            state,
-        }
+        let mut state = self.state;
+        state.core = core;
+        self.state = state;
+        self
     }
 }

@@ -1,94 +1,60 @@
 // What each of the four waits brings when it fires.
 ghost use mathlib.Core.Path.{_≡_};
-ghost use Rattle.iic.specs.Answers.{fine, andThen};
-ghost use Rattle.iic.specs.Clocking.{monitorStepOf, toggleOf, clockStepOf, filterFiresOf, fireFilterOf, fireSetupOf, stretchOf, fireMonitorOf, fireClockOf};
-ghost use Rattle.iic.specs.State.{onCore};
-ghost use Rattle.steps.specs.Setters.{setSynchronizedHold};
-ghost use mathlib.Core.Bool.{true};
-use super::Ended;
+ghost use Rattle.iic.specs.Answers.{andThen};
+ghost use Rattle.iic.specs.Clocking.{monitorStepOf, toggleOf, clockStepOf, dueAfter, unfired, filterFiresOf, fireFilterOf, fireSetupOf, stretchOf, fireMonitorOf, fireClockOf};
+ghost use Rattle.waits.specs.Ends.{dueOf};
 use super::Iic;
 use super::Stepped;
 use clocks::Clocks;
+use clocks::wait::Deadline;
 use time::Time;
 use waits::Due;
+use waits::HalfWait;
 use waits::MaybeHalf;
 use waits::MaybeWait;
 use waits::ends::due;
+use waits::rates::monitor_halves;
 
 impl Iic {
-    fn monitor_step(self, now: Time, clocks: Clocks) -> Stepped
-        ensures { λ r. ⌜ r ≡ monitorStepOf now clocks self ⌝ }
-    {
-        if self.core.lines.drive.scl {
-            return self.start_monitor(now, clocks);
-        }
-        self.finished_with(self.core.with_monitor_wait(MaybeHalf::NoHalf))
-    }
-
-    fn toggle(self, now: Time, clocks: Clocks) -> Stepped
+    fn toggle(mut self, now: Time, clocks: Clocks) -> Stepped
         ensures { λ r. ⌜ r ≡ toggleOf now clocks self ⌝ }
     {
         let clocks_bits = self.core.master() & !self.core.held();
         if clocks_bits {
             let level = !self.core.lines.drive.scl;
-            return self.clock_with(self.core.drive_scl(level), now, clocks)
-                .then_monitor_step(now, clocks);
+            self.core.lines.drive.scl = level;
+            let next = self.start_clock(now, clocks);
+            return next.monitor_step(now, clocks);
         }
         self.fine()
     }
 
     // The clock's wait has ended.
-    fn clock_step(self, now: Time, clocks: Clocks) -> Stepped
+    fn clock_step(mut self, now: Time, clocks: Clocks) -> Stepped
         ensures { λ r. ⌜ r ≡ clockStepOf now clocks self ⌝ }
     {
         let core = self.core;
         if !core.conditioned() {
             return self.toggle(now, clocks);
         }
-        let next = core.clock_condition();
+        self.core = core.clock_condition();
         let condition = core.condition;
         if condition.is_start_hold() {
-            return self.clock_with(next, now, clocks);
+            return self.start_clock(now, clocks);
         }
-        self.finished_with(next)
+        self.fine()
     }
 
-    fn filter_fires(self, now: Time, clocks: Clocks) -> Stepped
+    fn filter_fires(mut self, now: Time, clocks: Clocks) -> Stepped
         ensures { λ r. ⌜ r ≡ filterFiresOf now clocks self ⌝ }
     {
         let core = self.core;
         let lines = core.lines;
         let old = lines.filtered;
-        self.with_core(core.filter_pass())
-            .with_filter_wait(MaybeWait::NoWait)
-            .filtered_edges(old, now, clocks)
-            .then_schedule_filter(now, clocks)
-    }
-
-    pub(crate) fn fire_filter(self, now: Time, clocks: Clocks) -> Stepped
-        ensures { λ r. ⌜ r ≡ fireFilterOf now clocks self ⌝ }
-    {
-        let filter_wait = self.filter_wait;
-        let ends = due(filter_wait.end(clocks), now);
-        match ends {
-            Due::Now => self.filter_fires(now, clocks),
-            Due::NotNow => self.fine(),
-            Due::Refused(n) => self.refused(n),
-        }
-    }
-
-    // A slave lets SCL go.
-    fn fire_setup(self, now: Time, clocks: Clocks) -> Stepped
-        ensures { λ r. ⌜ r ≡ fireSetupOf now clocks self ⌝ }
-    {
-        let setup_wait = self.setup_wait;
-        let ends = due(setup_wait.end(clocks), now);
-        match ends {
-            Due::Now => self.with_setup_wait(MaybeWait::NoWait)
-                .finished_with(self.core.drive_scl(true)),
-            Due::NotNow => self.fine(),
-            Due::Refused(n) => self.refused(n),
-        }
+        self.core = core.filter_pass();
+        self = self.with_filter_wait(MaybeWait::NoWait);
+        let next = self.filtered_edges(old, now, clocks);
+        next.schedule_filter(now, clocks)
     }
 
     // SCL is still low though released: the clock's wait pauses.
@@ -98,88 +64,104 @@ impl Iic {
         if self.core.lines.filtered.scl {
             return self.fine();
         }
-        self.turn_clock(false, now, clocks).then_stretched()
-    }
-
-    fn fire_monitor(self, now: Time, clocks: Clocks) -> Stepped
-        ensures { λ r. ⌜ r ≡ fireMonitorOf now clocks self ⌝ }
-    {
-        let core = self.core;
-        let monitor_wait = core.monitor_wait;
-        let ends = due(monitor_wait.half_end(clocks), now);
-        match ends {
-            Due::Now => self.with_core(core.with_monitor_wait(MaybeHalf::NoHalf))
-                .stretch(now, clocks),
-            Due::NotNow => self.fine(),
-            Due::Refused(n) => self.refused(n),
+        let mut next = self.fine();
+        next = next.turn_clock(false, now, clocks);
+        if next.went_on() {
+            next.state.core.flags.synchronized_hold = true;
         }
-    }
-
-    fn fire_clock(self, now: Time, clocks: Clocks) -> Stepped
-        ensures { λ r. ⌜ r ≡ fireClockOf now clocks self ⌝ }
-    {
-        let core = self.core;
-        let clock_wait = core.clock_wait;
-        let ends = due(clock_wait.half_end(clocks), now);
-        match ends {
-            Due::Now => self.with_core(core.with_clock_wait(MaybeHalf::NoHalf))
-                .clock_step(now, clocks),
-            Due::NotNow => self.fine(),
-            Due::Refused(n) => self.refused(n),
-        }
+        next
     }
 }
 
 impl Stepped {
-    fn then_monitor_step(self, now: Time, clocks: Clocks) -> Stepped
+    // A rising clock is watched, a falling one is not.
+    fn monitor_step(mut self, now: Time, clocks: Clocks) -> Stepped
         ensures { λ r. ⌜ r ≡ andThen self (monitorStepOf now clocks) ⌝ }
     {
-        let ended = self.ended;
-        let Ended::Finished = ended else {
-            return self;
-        };
-        self.state.monitor_step(now, clocks)
+        if self.went_on() {
+            if self.state.core.lines.drive.scl {
+                let halves = monitor_halves(self.state.core.registers.control) as u64;
+                self = self.state
+                    .monitor_from(HalfWait::after(now, halves, clocks));
+            } else {
+                self = self.with_core(self.state.core.with_monitor_wait(MaybeHalf::NoHalf));
+            }
+        }
+        self
     }
 
-    fn then_stretched(self) -> Stepped
-        ensures { λ r. ⌜ r ≡ andThen self (λ u. fine (onCore (setSynchronizedHold true) u)) ⌝ }
+    // Whether a time is now; nothing is due after a refusal.
+    fn due(self, end: Deadline, now: Time) -> Due
+        ensures { λ r. ⌜ r ≡ dueAfter (self .ended) (dueOf end now) ⌝ }
     {
-        let ended = self.ended;
-        let Ended::Finished = ended else {
+        if self.went_on() {
+            return due(end, now);
+        }
+        Due::NotNow
+    }
+
+    // A wait that isn't due changes nothing; a refused time refuses the visit.
+    fn unfired(self, ends: Due) -> Stepped
+        ensures { λ r. ⌜ r ≡ unfired ends self ⌝ }
+    {
+        let Due::Refused(n) = ends else {
             return self;
         };
+        self.state.refused(n)
+    }
+
+    pub(crate) fn fire_filter(self, now: Time, clocks: Clocks) -> Stepped
+        ensures { λ r. ⌜ r ≡ andThen self (fireFilterOf now clocks) ⌝ }
+    {
+        let state = self.state;
+        let filter_wait = state.filter_wait;
+        let ends = self.due(filter_wait.end(clocks), now);
+        let Due::Now = ends else {
+            return self.unfired(ends);
+        };
+        state.filter_fires(now, clocks)
+    }
+
+    // A slave lets SCL go.
+    pub(crate) fn fire_setup(self, now: Time, clocks: Clocks) -> Stepped
+        ensures { λ r. ⌜ r ≡ andThen self (fireSetupOf now clocks) ⌝ }
+    {
         let mut state = self.state;
-        state.core.flags.synchronized_hold = true;
+        let setup_wait = state.setup_wait;
+        let ends = self.due(setup_wait.end(clocks), now);
+        let Due::Now = ends else {
+            return self.unfired(ends);
+        };
+        state.core.lines.drive.scl = true;
+        state = state.with_setup_wait(MaybeWait::NoWait);
         state.fine()
     }
 
-    pub(crate) fn then_fire_setup(self, now: Time, clocks: Clocks) -> Stepped
-        ensures { λ r. ⌜ r ≡ andThen self (fireSetupOf now clocks) ⌝ }
-    {
-        let ended = self.ended;
-        let Ended::Finished = ended else {
-            return self;
-        };
-        self.state.fire_setup(now, clocks)
-    }
-
-    pub(crate) fn then_fire_monitor(self, now: Time, clocks: Clocks) -> Stepped
+    pub(crate) fn fire_monitor(self, now: Time, clocks: Clocks) -> Stepped
         ensures { λ r. ⌜ r ≡ andThen self (fireMonitorOf now clocks) ⌝ }
     {
-        let ended = self.ended;
-        let Ended::Finished = ended else {
-            return self;
+        let mut state = self.state;
+        let core = state.core;
+        let monitor_wait = core.monitor_wait;
+        let ends = self.due(monitor_wait.half_end(clocks), now);
+        let Due::Now = ends else {
+            return self.unfired(ends);
         };
-        self.state.fire_monitor(now, clocks)
+        state.core = core.with_monitor_wait(MaybeHalf::NoHalf);
+        state.stretch(now, clocks)
     }
 
-    pub(crate) fn then_fire_clock(self, now: Time, clocks: Clocks) -> Stepped
+    pub(crate) fn fire_clock(self, now: Time, clocks: Clocks) -> Stepped
         ensures { λ r. ⌜ r ≡ andThen self (fireClockOf now clocks) ⌝ }
     {
-        let ended = self.ended;
-        let Ended::Finished = ended else {
-            return self;
+        let mut state = self.state;
+        let core = state.core;
+        let clock_wait = core.clock_wait;
+        let ends = self.due(clock_wait.half_end(clocks), now);
+        let Due::Now = ends else {
+            return self.unfired(ends);
         };
-        self.state.fire_clock(now, clocks)
+        state.core = core.with_clock_wait(MaybeHalf::NoHalf);
+        state.clock_step(now, clocks)
     }
 }

@@ -1,8 +1,7 @@
 // What filtered levels bring: the edges of the clock, and a condition under way.
 ghost use mathlib.Core.Path.{_≡_};
 ghost use Rattle.iic.specs.Answers.{andThen};
-ghost use Rattle.iic.specs.Edges.{longer, insertWaitOf, fallAckOf, fallAt, fallOf, fallOn, fallingOf, stretchedOf, conditionStepOf, sclEdgeOf, filteredEdgesOf};
-use super::Ended;
+ghost use Rattle.iic.specs.Edges.{longer, fallAt, fallOn, fallingOf, stretchedOf, conditionStepOf, sclEdgeOf, filteredEdgesOf};
 use super::Iic;
 use super::Stepped;
 use bus::Levels;
@@ -17,6 +16,7 @@ use waits::half::made_half;
 use waits::rates::period;
 
 impl Iic {
+    // ICMR's WAIT lengthens a master's wait by two clocks.
     fn longer(self) -> Stepped
         ensures { λ r. ⌜ r ≡ longer (self .core .«clock_wait») self ⌝ }
     {
@@ -29,57 +29,42 @@ impl Iic {
         self.clock_from(made_half(w.paused, checked_add(w.count, extra)))
     }
 
-    // ICMR's WAIT lengthens a master's wait by two clocks.
-    fn insert_wait(self) -> Stepped
-        ensures { λ r. ⌜ r ≡ insertWaitOf self ⌝ }
-    {
-        if self.core.inserts_wait() {
-            return self.longer();
-        }
-        self.fine()
-    }
-
-    // The eighth fall.
-    fn fall_ack(self, f: Frame, now: Time) -> Stepped
-        ensures { λ r. ⌜ r ≡ fallAckOf f now self ⌝ }
-    {
-        self.with_core(self.core.take_fall(f, now)).insert_wait()
-    }
-
-    fn fall_at(self, f: Frame, now: Time) -> Stepped
+    fn fall_at(mut self, f: Frame, now: Time) -> Stepped
         ensures { λ r. ⌜ r ≡ fallAt (f .phase) f now self ⌝ }
     {
         let phase = f.phase;
         match phase {
-            Phase::Data => self.finished_with(self.core.load_transmit().fall_data()),
-            Phase::Ack => self.fall_ack(f, now),
-            Phase::Done => self.fine(),
+            Phase::Data => {
+                self.core = self.core.load_transmit();
+                self.core = self.core.fall_data();
+            }
+            // The eighth fall.
+            Phase::Ack => {
+                self.core = self.core.take_fall(f, now);
+                if self.core.inserts_wait() {
+                    return self.longer();
+                }
+            }
+            Phase::Done => {}
         }
-    }
-
-    fn fall(self, now: Time) -> Stepped
-        ensures { λ r. ⌜ r ≡ fallOf now self ⌝ }
-    {
-        let core = self.core;
-        let frame = core.frame;
-        let Framing::InFrame(f) = frame else {
-            return self.finished_with(core.fall_idle());
-        };
-        self.fall_at(f, now)
+        self.fine()
     }
 
     // The clock has fallen: SDA shows the next bit.
-    fn falling(self, now: Time, clocks: Clocks) -> Stepped
+    fn falling(mut self, now: Time, clocks: Clocks) -> Stepped
         ensures { λ r. ⌜ r ≡ fallingOf now clocks self ⌝ }
     {
         if self.core.conditioned() {
             return self.fine();
         }
+        let mut next = self.fine();
         if self.core.commanded() {
-            return self.kick(now, clocks);
+            return next.kick(now, clocks);
         }
-        self.kick_with(self.core.end_frame(), now, clocks)
-            .then_fall(now)
+        self.core = self.core.end_frame();
+        next = self.fine();
+        next = next.kick(now, clocks);
+        next.fall(now)
     }
 
     // SCL is high again: the wait that a stretched clock paused goes on.
@@ -89,78 +74,66 @@ impl Iic {
         let ends = self.core.flags.synchronized_hold & self.core.lines.filtered.scl;
         if ends {
             self.core.flags.synchronized_hold = false;
-            return self.turn_clock(true, now, clocks);
+            return self.fine().turn_clock(true, now, clocks);
         }
         self.fine()
     }
 
-    // A condition under way goes on as the levels have risen.
-    fn condition_step(self, now: Time, clocks: Clocks) -> Stepped
-        ensures { λ r. ⌜ r ≡ conditionStepOf now clocks self ⌝ }
-    {
-        if self.core.condition_high() {
-            return self.clock_with(self.core.raise_condition(), now, clocks);
-        }
-        self.fine()
-    }
-
-    fn scl_edge(self, was: bool, now: Time, clocks: Clocks) -> Stepped
-        ensures { λ r. ⌜ r ≡ sclEdgeOf was now clocks self ⌝ }
-    {
-        let rises = !was & self.core.lines.filtered.scl;
-        if rises {
-            let sda = self.core.lines.filtered.sda;
-            return self.finished_with(self.core.rising(sda));
-        }
-        let falls = was & !self.core.lines.filtered.scl;
-        if falls {
-            return self.falling(now, clocks);
-        }
-        self.fine()
-    }
-
-    pub(crate) fn filtered_edges(self, old: Levels, now: Time, clocks: Clocks) -> Stepped
+    pub(crate) fn filtered_edges(mut self, old: Levels, now: Time, clocks: Clocks) -> Stepped
         ensures { λ r. ⌜ r ≡ filteredEdgesOf old now clocks self ⌝ }
     {
-        let core = self.core.bus_edge(old);
-        let s = self.with_core(core);
-        if core.flags.reset {
-            return s.fine();
+        self.core = self.core.bus_edge(old);
+        if self.core.flags.reset {
+            return self.fine();
         }
-        s.stretched(now, clocks)
-            .then_condition_step(now, clocks)
-            .then_scl_edge(old.scl, now, clocks)
+        let mut next = self.stretched(now, clocks);
+        next = next.condition_step(now, clocks);
+        next.scl_edge(old.scl, now, clocks)
     }
 }
 
 impl Stepped {
-    fn then_fall(self, now: Time) -> Stepped
+    fn fall(mut self, now: Time) -> Stepped
         ensures { λ r. ⌜ r ≡ andThen self (fallOn now) ⌝ }
     {
-        let ended = self.ended;
-        let Ended::Finished = ended else {
-            return self;
-        };
-        self.state.with_core(self.state.core.follow()).fall(now)
+        if self.went_on() {
+            let core = self.state.core.follow();
+            let frame = core.frame;
+            self = self.with_core(core);
+            if let Framing::InFrame(f) = frame {
+                self = self.state.fall_at(f, now);
+            } else {
+                self = self.with_core(core.fall_idle());
+            }
+        }
+        self
     }
 
-    fn then_condition_step(self, now: Time, clocks: Clocks) -> Stepped
+    // A condition under way goes on as the levels have risen.
+    fn condition_step(mut self, now: Time, clocks: Clocks) -> Stepped
         ensures { λ r. ⌜ r ≡ andThen self (conditionStepOf now clocks) ⌝ }
     {
-        let ended = self.ended;
-        let Ended::Finished = ended else {
-            return self;
-        };
-        self.state.condition_step(now, clocks)
+        let goes = self.went_on() & self.state.core.condition_high();
+        if goes {
+            let mut state = self.state;
+            state.core = state.core.raise_condition();
+            self = state.start_clock(now, clocks);
+        }
+        self
     }
 
-    fn then_scl_edge(self, was: bool, now: Time, clocks: Clocks) -> Stepped
+    fn scl_edge(mut self, was: bool, now: Time, clocks: Clocks) -> Stepped
         ensures { λ r. ⌜ r ≡ andThen self (sclEdgeOf was now clocks) ⌝ }
     {
-        let ended = self.ended;
-        let Ended::Finished = ended else {
-            return self;
-        };
-        self.state.scl_edge(was, now, clocks)
+        let moved = self.went_on() & (self.state.core.lines.filtered.scl != was);
+        if moved {
+            if was {
+                self = self.state.falling(now, clocks);
+            } else {
+                let sda = self.state.core.lines.filtered.sda;
+                self = self.with_core(self.state.core.rising(sda));
+            }
+        }
+        self
     }
 }

@@ -1,22 +1,23 @@
 // The step that starts what is due: a condition, a frame, a clock; and the end of a hold.
 ghost use mathlib.Core.Path.{_≡_};
 ghost use Rattle.iic.specs.Answers.{fine, andThen};
-ghost use Rattle.iic.specs.Kick.{beginConditionOf, launchOf, launchIn, clockFrameOf, kickOf, waitAfterHoldOf, releaseHoldOf};
-ghost use Rattle.iic.specs.State.{onCore, setCore};
+ghost use Rattle.iic.specs.Kick.{beginConditionOf, clockFrameOf, kickOf, releaseHoldOf};
+ghost use Rattle.iic.specs.State.{onCore};
+ghost use Rattle.iic.specs.Waiting.{startSetupOf};
 ghost use Rattle.steps.specs.Ready.{showOf};
-use super::Ended;
 use super::Iic;
 use super::Stepped;
 use clocks::Clocks;
-use frames::Frame;
+use clocks::tap::Tap;
+use clocks::wait::ClockWait;
 use frames::Framing;
 use steps::Command;
-use steps::Core;
 use steps::Hold;
 use time::Time;
+use waits::rates::setup_cycles;
 
 impl Iic {
-    fn begin_condition(self, now: Time, clocks: Clocks) -> Stepped
+    fn begin_condition(mut self, now: Time, clocks: Clocks) -> Stepped
         ensures { λ r. ⌜ r ≡ beginConditionOf now clocks self ⌝ }
     {
         let core = self.core;
@@ -24,101 +25,81 @@ impl Iic {
         let Command::Commanded(start) = command else {
             return self.fine();
         };
-        self.clock_with(core.begun(start), now, clocks)
+        self.core = core.begun(start);
+        self.start_clock(now, clocks)
     }
 
-    fn launch(self, f: Frame, now: Time, clocks: Clocks) -> Stepped
-        ensures { λ r. ⌜ r ≡ launchOf f now clocks self ⌝ }
-    {
-        let phase = f.phase;
-        if phase.is_done() {
-            return self.fine();
-        }
-        if f.starved() {
-            return self.finished_with(self.core.set_hold(Hold::Transmit));
-        }
-        let level = self.core.level(f);
-        self.clock_with(self.core.low_half(level), now, clocks)
-    }
-
-    fn launch_in(self, now: Time, clocks: Clocks) -> Stepped
-        ensures { λ r. ⌜ r ≡ launchIn (self .core .frame) now clocks self ⌝ }
+    // SCL goes low for the next bit of a frame, or is held until there is a byte.
+    fn clock_frame(mut self, now: Time, clocks: Clocks) -> Stepped
+        ensures { λ r. ⌜ r ≡ clockFrameOf now clocks self ⌝ }
     {
         let core = self.core;
         let frame = core.frame;
         let Framing::InFrame(f) = frame else {
             return self.fine();
         };
-        self.launch(f, now, clocks)
-    }
-
-    fn clock_frame(self, now: Time, clocks: Clocks) -> Stepped
-        ensures { λ r. ⌜ r ≡ clockFrameOf now clocks self ⌝ }
-    {
-        if self.core.clock_due() {
-            return self.launch_in(now, clocks);
-        }
-        self.fine()
-    }
-
-    // Starts what is due.
-    pub(crate) fn kick(self, now: Time, clocks: Clocks) -> Stepped
-        ensures { λ r. ⌜ r ≡ kickOf now clocks self ⌝ }
-    {
-        if !self.core.ready() {
+        if !core.clock_due() {
             return self.fine();
         }
-        if self.core.command_ready() {
-            return self.begin_condition(now, clocks);
+        let phase = f.phase;
+        if phase.is_done() {
+            return self.fine();
         }
-        self.with_core(self.core.next_frame().load_transmit())
-            .clock_frame(now, clocks)
+        if f.starved() {
+            self.core = core.set_hold(Hold::Transmit);
+            return self.fine();
+        }
+        self.core = core.low_half(core.level(f));
+        self.start_clock(now, clocks)
     }
 
-    // The same on a core that was set anew.
-    pub(crate) fn kick_with(self, core: Core, now: Time, clocks: Clocks) -> Stepped
-        ensures { λ r. ⌜ r ≡ kickOf now clocks (setCore core self) ⌝ }
+    fn start_setup(self, now: Time, clocks: Clocks) -> Stepped
+        ensures { λ r. ⌜ r ≡ startSetupOf now clocks self ⌝ }
     {
-        self.with_core(core).kick(now, clocks)
-    }
-
-    fn wait_after_hold(self, now: Time, clocks: Clocks) -> Stepped
-        ensures { λ r. ⌜ r ≡ waitAfterHoldOf now clocks self ⌝ }
-    {
-        if self.core.master() {
-            return self.start_clock(now, clocks);
-        }
-        self.start_setup(now, clocks)
+        let cycles = setup_cycles(self.core.registers.control) as u64;
+        self.setup_from(ClockWait::after(now, cycles, Tap::system(1), clocks))
     }
 
     // A register was served: SCL goes on after a wait.
-    pub(crate) fn release_hold(self, now: Time, clocks: Clocks) -> Stepped
+    pub(crate) fn release_hold(mut self, now: Time, clocks: Clocks) -> Stepped
         ensures { λ r. ⌜ r ≡ releaseHoldOf now clocks self ⌝ }
     {
-        self.with_core(self.core.with_hold(Hold::NoHold))
-            .wait_after_hold(now, clocks)
-            .then_show()
+        self.core = self.core.with_hold(Hold::NoHold);
+        let mut next = self.fine();
+        if self.core.master() {
+            next = self.start_clock(now, clocks);
+        } else {
+            next = self.start_setup(now, clocks);
+        }
+        next.show()
     }
 }
 
 impl Stepped {
-    pub(crate) fn then_kick(self, now: Time, clocks: Clocks) -> Stepped
+    // Starts what is due.
+    pub(crate) fn kick(mut self, now: Time, clocks: Clocks) -> Stepped
         ensures { λ r. ⌜ r ≡ andThen self (kickOf now clocks) ⌝ }
     {
-        let ended = self.ended;
-        let Ended::Finished = ended else {
-            return self;
-        };
-        self.state.kick(now, clocks)
+        let mut state = self.state;
+        let starts = self.went_on() & state.core.ready();
+        if starts {
+            if state.core.command_ready() {
+                self = state.begin_condition(now, clocks);
+            } else {
+                state.core = state.core.next_frame();
+                state.core = state.core.load_transmit();
+                self = state.clock_frame(now, clocks);
+            }
+        }
+        self
     }
 
-    fn then_show(self) -> Stepped
+    fn show(mut self) -> Stepped
         ensures { λ r. ⌜ r ≡ andThen self (λ u. fine (onCore showOf u)) ⌝ }
     {
-        let ended = self.ended;
-        let Ended::Finished = ended else {
-            return self;
-        };
-        self.state.finished_with(self.state.core.show())
+        if self.went_on() {
+            self = self.with_core(self.state.core.show());
+        }
+        self
     }
 }

@@ -1,6 +1,6 @@
 // The default state, and its parts set anew.
 ghost use mathlib.Core.Path.{_≡_};
-ghost use Rattle.iic.specs.State.{defaultIic, setCore, setFilterWait, setSetupWait, stopShifterOf};
+ghost use Rattle.iic.specs.State.{defaultIic, setFilterWait, setSetupWait};
 use super::Iic;
 use steps::Core;
 use waits::MaybeWait;
@@ -17,12 +17,6 @@ impl Iic {
         }
     }
 
-    pub(crate) fn with_core(self, core: Core) -> Iic
-        ensures { λ r. ⌜ r ≡ setCore core self ⌝ }
-    {
-        Iic { core, ..self }
-    }
-
     pub(crate) fn with_filter_wait(self, wait: MaybeWait) -> Iic
         ensures { λ r. ⌜ r ≡ setFilterWait wait self ⌝ }
     {
@@ -37,17 +31,6 @@ impl Iic {
     {
         Iic {
             setup_wait: wait,
-            ..self
-        }
-    }
-
-    // All that is under way stops, and both lines are released.
-    pub(crate) fn stop_shifter(self) -> Iic
-        ensures { λ r. ⌜ r ≡ stopShifterOf self ⌝ }
-    {
-        Iic {
-            core: self.core.stop_shifter(),
-            setup_wait: MaybeWait::NoWait,
             ..self
         }
     }

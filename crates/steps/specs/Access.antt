@@ -126,6 +126,17 @@ writeStatusOf value s = setStatus (statusLeft value s) (setSeen (bitAnd (s .regi
 unfoldable pub writeAddressOf : ℕ → Core → Core
 writeAddressOf value s = setAddress value (setBusy (s .flags .busy && not (has value FS)) s)
 
+-- the registers whose write alone starts no wait; the others stay as they are
+abbrev pub writePlain : Register → ℕ → Core → Core
+writePlain ICCR1 value s = s
+writePlain ICCR2 value s = s
+writePlain ICMR value s = writeModeOf value s
+writePlain ICIER value s = writeEnableOf value s
+writePlain ICSR value s = writeStatusOf value s
+writePlain SAR value s = writeAddressOf value s
+writePlain ICDRT value s = s
+writePlain ICDRR value s = s
+
 -- TDRE and TEND go from ICSR and from `seen`
 unfoldable pub giveDataOf : ℕ → Core → Core
 giveDataOf value s =

@@ -38,22 +38,17 @@ impl Core {
         frame.progress_holds()
     }
 
-    fn interrupt_by(self, enable: u8) -> bool
-        ensures { λ r. ⌜ r ≡ interruptBy self enable ⌝ }
+    // Whether an interrupt is asked for, with further enables that the host retained.
+    pub fn interrupt_with_enable(self, retained: u8) -> bool
+        ensures { λ r. ⌜ r ≡ interruptWith self retained ⌝ }
     {
+        let enable = self.registers.enable | retained;
         let sync = self.registers.address & FS != 0;
         let shown = self.registers.status & enable;
         let mask = AL | bus::flag(!sync, NACKF);
         (shown & 0xe0 != 0)
             | (!sync & (shown & STOP != 0))
             | ((enable & NAKIE != 0) & (self.registers.status & mask != 0))
-    }
-
-    // Whether an interrupt is asked for, with further enables that the host retained.
-    pub fn interrupt_with_enable(self, retained: u8) -> bool
-        ensures { λ r. ⌜ r ≡ interruptWith self retained ⌝ }
-    {
-        self.interrupt_by(self.registers.enable | retained)
     }
 
     // 0, or refusal 12 for a half count near the top.

@@ -26,16 +26,10 @@ impl Condition {
     pub fn is_start_hold(self) -> bool
         ensures { λ r. ⌜ r ≡ isStartHold self ⌝ }
     {
-        match self {
-            Condition::NoCondition => false,
-            Condition::StartRelease => false,
-            Condition::StartHigh => false,
-            Condition::StartHold => true,
-            Condition::StopLow => false,
-            Condition::StopHigh => false,
-            Condition::StopRelease => false,
-            Condition::StopDetect => false,
-        }
+        let Condition::StartHold = self else {
+            return false;
+        };
+        true
     }
 }
 
@@ -57,96 +51,73 @@ impl Core {
         }
     }
 
-    fn stop_released(mut self) -> Core
-        ensures { λ r. ⌜ r ≡ stopReleased self ⌝ }
-    {
-        self.lines.drive.sda = true;
-        self.flags.receive_enabled = false;
-        self.with_frame(Framing::NoFrame)
-            .with_condition(Condition::StopDetect)
-    }
-
-    fn release_sda(self) -> Core
-        ensures { λ r. ⌜ r ≡ releaseSdaOf self ⌝ }
-    {
-        if self.flags.reset {
-            self
-        } else {
-            self.drive_sda(true)
-        }
-    }
-
-    fn stop_noted(self) -> Core
-        ensures { λ r. ⌜ r ≡ stopNoted self ⌝ }
+    fn bus_stop(mut self) -> Core
+        ensures { λ r. ⌜ r ≡ busStopOf self ⌝ }
     {
         let meant = self.flags.selected
             | ((self.registers.control & MST != 0) & self.flags.completed);
-        self.raise(bus::flag(meant, STOP))
-    }
-
-    fn bus_stop(self) -> Core
-        ensures { λ r. ⌜ r ≡ busStopOf self ⌝ }
-    {
-        let mut s = self.stop_noted();
-        s.flags.busy = false;
-        s.flags.selected = false;
-        s.flags.receive_enabled = false;
-        s.flags.receive_stopped = false;
-        let t = Core {
+        self = self.raise(bus::flag(meant, STOP));
+        self.flags.busy = false;
+        self.flags.selected = false;
+        self.flags.receive_enabled = false;
+        self.flags.receive_stopped = false;
+        self = Core {
             frame: Framing::NoFrame,
             condition: Condition::NoCondition,
             hold: Hold::NoHold,
             clock_wait: MaybeHalf::NoHalf,
             monitor_wait: MaybeHalf::NoHalf,
-            ..s
+            ..self
         };
-        t.release_sda()
-    }
-
-    // A start that the master did not make.
-    fn lose_start(self) -> Core
-        ensures { λ r. ⌜ r ≡ loseStartOf self ⌝ }
-    {
-        let lost = (self.registers.control & MST != 0) & self.lines.drive.sda;
-        if lost { self.arbitration_lost() } else { self }
-    }
-
-    fn begin_address(self) -> Core
-        ensures { λ r. ⌜ r ≡ beginAddressOf self ⌝ }
-    {
         if self.flags.reset {
-            self
-        } else {
-            self.begin_frame(true)
+            return self;
         }
+        self.lines.drive.sda = true;
+        self
     }
 
-    fn bus_start(self) -> Core
+    fn bus_start(mut self) -> Core
         ensures { λ r. ⌜ r ≡ busStartOf self ⌝ }
     {
-        let mut s = self.lose_start();
-        s.flags.busy = true;
-        s.flags.selected = false;
-        s.flags.completed = false;
-        s.flags.receive_stopped = false;
-        s.begin_address()
+        let lost = (self.registers.control & MST != 0) & self.lines.drive.sda;
+        self = self.when_lost(lost);
+        self.flags.busy = true;
+        self.flags.selected = false;
+        self.flags.completed = false;
+        self.flags.receive_stopped = false;
+        if self.flags.reset {
+            return self;
+        }
+        self.begin_frame(true)
     }
 
     // A condition under way goes a stage on as the clock's wait ends.
-    pub fn clock_condition(self) -> Core
+    pub fn clock_condition(mut self) -> Core
         ensures { λ r. ⌜ r ≡ clockedOf self ⌝ }
     {
         let condition = self.condition;
         match condition {
-            Condition::NoCondition => self,
-            Condition::StartRelease => self.drive_scl(true).with_condition(Condition::StartHigh),
-            Condition::StartHigh => self,
-            Condition::StartHold => self.drive_scl(false).with_condition(Condition::NoCondition),
-            Condition::StopLow => self.drive_scl(true).with_condition(Condition::StopHigh),
-            Condition::StopHigh => self,
-            Condition::StopRelease => self.stop_released(),
-            Condition::StopDetect => self,
+            Condition::StartRelease => {
+                self.lines.drive.scl = true;
+                self = self.with_condition(Condition::StartHigh);
+            }
+            Condition::StartHold => {
+                self.lines.drive.scl = false;
+                self = self.with_condition(Condition::NoCondition);
+            }
+            Condition::StopLow => {
+                self.lines.drive.scl = true;
+                self = self.with_condition(Condition::StopHigh);
+            }
+            Condition::StopRelease => {
+                self.lines.drive.sda = true;
+                self.flags.receive_enabled = false;
+                self = self.with_frame(Framing::NoFrame);
+                self = self.with_condition(Condition::StopDetect);
+            }
+            _ => {}
         }
+        self
     }
 
     // The levels are high for which a condition under way has waited.
@@ -156,36 +127,38 @@ impl Core {
         let condition = self.condition;
         let scl = self.lines.filtered.scl;
         match condition {
-            Condition::NoCondition => false,
-            Condition::StartRelease => false,
-            Condition::StartHigh => scl & self.lines.filtered.sda,
-            Condition::StartHold => false,
-            Condition::StopLow => false,
-            Condition::StopHigh => scl,
-            Condition::StopRelease => false,
-            Condition::StopDetect => false,
+            Condition::StartHigh => {
+                return scl & self.lines.filtered.sda;
+            }
+            Condition::StopHigh => {
+                return scl;
+            }
+            _ => {
+                return false;
+            }
         }
     }
 
     // What follows once they are: SDA falls for a start, or a stop waits to release it.
-    pub fn raise_condition(self) -> Core
+    pub fn raise_condition(mut self) -> Core
         ensures { λ r. ⌜ r ≡ raisedOf self ⌝ }
     {
         let condition = self.condition;
         match condition {
-            Condition::NoCondition => self,
-            Condition::StartRelease => self,
-            Condition::StartHigh => self.drive_sda(false).with_condition(Condition::StartHold),
-            Condition::StartHold => self,
-            Condition::StopLow => self,
-            Condition::StopHigh => self.with_condition(Condition::StopRelease),
-            Condition::StopRelease => self,
-            Condition::StopDetect => self,
+            Condition::StartHigh => {
+                self.lines.drive.sda = false;
+                self = self.with_condition(Condition::StartHold);
+            }
+            Condition::StopHigh => {
+                self = self.with_condition(Condition::StopRelease);
+            }
+            _ => {}
         }
+        self
     }
 
     // A start or a stop of the bus, outside synchronous mode.
-    pub fn bus_edge(self, old: Levels) -> Core
+    pub fn bus_edge(mut self, old: Levels) -> Core
         ensures { λ r. ⌜ r ≡ busEdgeOf old self ⌝ }
     {
         if self.synchronous() {
@@ -194,10 +167,9 @@ impl Core {
         let lines = self.lines;
         let new = lines.filtered;
         if bus::is_stop(old, new) {
-            return self.bus_stop();
-        }
-        if bus::is_start(old, new) {
-            return self.bus_start();
+            self = self.bus_stop();
+        } else if bus::is_start(old, new) {
+            self = self.bus_start();
         }
         self
     }

@@ -15,19 +15,8 @@ use frames::Framing;
 use time::Time;
 
 impl Core {
-    fn end_with(mut self, f: Frame) -> Core
-        ensures { λ r. ⌜ r ≡ endFrame f self ⌝ }
-    {
-        let enabled = self.flags.receive_enabled & !f.last;
-        self.flags.receive_enabled = enabled;
-        let stopped = self.flags.receive_stopped | f.last;
-        self.flags.receive_stopped = stopped;
-        self.lines.drive.sda = true;
-        self.with_frame(Framing::NoFrame)
-    }
-
     // A frame that is through ends.
-    pub fn end_frame(self) -> Core
+    pub fn end_frame(mut self) -> Core
         ensures { λ r. ⌜ r ≡ endFrameOf self ⌝ }
     {
         let frame = self.frame;
@@ -36,13 +25,18 @@ impl Core {
         };
         let phase = f.phase;
         if phase.is_done() {
-            return self.end_with(f);
+            let enabled = self.flags.receive_enabled & !f.last;
+            self.flags.receive_enabled = enabled;
+            let stopped = self.flags.receive_stopped | f.last;
+            self.flags.receive_stopped = stopped;
+            self.lines.drive.sda = true;
+            self = self.with_frame(Framing::NoFrame);
         }
         self
     }
 
     // A frame's direction follows ICCR1.
-    pub fn follow(self) -> Core
+    pub fn follow(mut self) -> Core
         ensures { λ r. ⌜ r ≡ followOf self ⌝ }
     {
         let frame = self.frame;
@@ -53,24 +47,12 @@ impl Core {
         if phase.is_data() {
             let sends = (self.registers.control & TRS != 0)
                 & ((self.registers.control & MST != 0) | !f.address);
-            return self.with_frame(Framing::InFrame(f.turned(sends)));
+            self = self.with_frame(Framing::InFrame(f.turned(sends)));
         }
         self
     }
 
-    // No byte to send.
-    fn hold_transmit(self) -> Core
-        ensures { λ r. ⌜ r ≡ holdTransmitOf self ⌝ }
-    {
-        let stops = (self.registers.address & FS != 0) & (self.registers.control & MST != 0);
-        if stops {
-            self.unclocked()
-        } else {
-            self.set_hold(Hold::Transmit)
-        }
-    }
-
-    pub fn fall_data(self) -> Core
+    pub fn fall_data(mut self) -> Core
         ensures { λ r. ⌜ r ≡ fallDataOf self ⌝ }
     {
         let frame = self.frame;
@@ -78,13 +60,21 @@ impl Core {
             return self;
         };
         if f.starved() {
-            return self.hold_transmit();
+            let stops = (self.registers.address & FS != 0) & (self.registers.control & MST != 0);
+            if stops {
+                self = self.unclocked();
+            } else {
+                self = self.set_hold(Hold::Transmit);
+            }
+        } else {
+            let level = f.data_level();
+            self.lines.drive.sda = level;
         }
-        self.drive_sda(f.data_level())
+        self
     }
 
     // The byte before is still in ICDRR.
-    fn hold_receive(self, f: Frame) -> Core
+    fn hold_receive(mut self, f: Frame) -> Core
         ensures { λ r. ⌜ r ≡ holdReceiveOf f self ⌝ }
     {
         let full = !f.transmit
@@ -92,10 +82,9 @@ impl Core {
             & (self.registers.status & RDRF != 0)
             & !self.flags.stale_release;
         if full {
-            self.set_hold(Hold::Receive)
-        } else {
-            self
+            self = self.set_hold(Hold::Receive);
         }
+        self
     }
 
     fn acknowledge(mut self, f: Frame) -> Core
@@ -110,12 +99,12 @@ impl Core {
     }
 
     // The eighth fall.
-    pub fn take_fall(self, f: Frame, now: Time) -> Core
+    pub fn take_fall(mut self, f: Frame, now: Time) -> Core
         ensures { λ r. ⌜ r ≡ fallTakenOf f now self ⌝ }
     {
-        self.with_eighth_fall(EighthFall::FellAt(now))
-            .hold_receive(f)
-            .acknowledge(f)
+        self = self.with_eighth_fall(EighthFall::FellAt(now));
+        self = self.hold_receive(f);
+        self.acknowledge(f)
     }
 
     // ICMR's WAIT lengthens a master's wait.
@@ -131,7 +120,7 @@ impl Core {
     {
         if self.master() {
             self.lines.drive.scl = false;
-            return self.unclocked();
+            self = self.unclocked();
         }
         self
     }

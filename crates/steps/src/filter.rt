@@ -44,15 +44,6 @@ impl Core {
         !bus::same_levels(raw, given) & self.awake()
     }
 
-    // The levels, as given.
-    pub fn take_levels(mut self, given: Levels) -> Core
-        ensures { λ r. ⌜ r ≡ setRaw given self ⌝ }
-    {
-        self.lines.raw.scl = given.scl;
-        self.lines.raw.sda = given.sda;
-        self
-    }
-
     // A level is still on its way through the filter.
     pub fn unsettled(self) -> bool
         ensures { λ r. ⌜ r ≡ unsettled self ⌝ }

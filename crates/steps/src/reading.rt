@@ -95,17 +95,8 @@ impl Core {
             self.flags.receive_enabled = true;
             let last = self.registers.control & RCVD != 0;
             let frame = self.frame;
-            return self.with_frame(frame.marked_in(last));
+            self = self.with_frame(frame.marked_in(last));
         }
-        self
-    }
-
-    // ICSR was read.
-    pub fn note_status(mut self) -> Core
-        ensures { λ r. ⌜ r ≡ setSeen (self .registers .status) self ⌝ }
-    {
-        let status = self.registers.status;
-        self.registers.seen = status;
         self
     }
 }

@@ -24,8 +24,9 @@ impl Core {
         self.commanded() & (!self.framed() | !self.lines.filtered.scl)
     }
 
-    fn frame_due(self) -> bool
-        ensures { λ r. ⌜ r ≡ frameDue self ⌝ }
+    // A frame begins where one is due.
+    pub fn next_frame(mut self) -> Core
+        ensures { λ r. ⌜ r ≡ nextFrameOf self ⌝ }
     {
         let sync = self.registers.address & FS != 0;
         let master = self.registers.control & MST != 0;
@@ -35,17 +36,11 @@ impl Core {
             & !(self.registers.status & NACKF != 0);
         let can_receive = !transmit
             & ((master & self.flags.receive_enabled) | (!master & (self.flags.selected | sync)));
-        !self.framed() & (self.flags.busy | sync) & (can_transmit | can_receive)
-    }
-
-    pub fn next_frame(self) -> Core
-        ensures { λ r. ⌜ r ≡ nextFrameOf self ⌝ }
-    {
-        if self.frame_due() {
-            self.begin_frame(false)
-        } else {
-            self
+        let due = !self.framed() & (self.flags.busy | sync) & (can_transmit | can_receive);
+        if due {
+            self = self.begin_frame(false);
         }
+        self
     }
 
     pub fn clock_due(self) -> bool
@@ -59,11 +54,10 @@ impl Core {
         ensures { λ r. ⌜ r ≡ levelAt (f .phase) f self ⌝ }
     {
         let phase = f.phase;
-        match phase {
-            Phase::Data => f.data_level(),
-            Phase::Ack => f.transmit | (self.registers.enable & ACKBT != 0),
-            Phase::Done => f.transmit | (self.registers.enable & ACKBT != 0),
+        if phase.is_data() {
+            return f.data_level();
         }
+        f.transmit | (self.registers.enable & ACKBT != 0)
     }
 
     // SCL goes low; SDA changes only while filtered SCL is low.
@@ -89,7 +83,7 @@ impl Core {
         }
     }
 
-    pub fn show(self) -> Core
+    pub fn show(mut self) -> Core
         ensures { λ r. ⌜ r ≡ showOf self ⌝ }
     {
         let frame = self.frame;
@@ -97,6 +91,7 @@ impl Core {
             return self;
         };
         let level = self.released_level(f);
-        self.drive_sda(level)
+        self.lines.drive.sda = level;
+        self
     }
 }

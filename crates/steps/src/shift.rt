@@ -28,35 +28,30 @@ use frames::parts::bits_of;
 use waits::MaybeHalf;
 
 impl Core {
-    fn can_load(self, f: Frame) -> bool
-        ensures { λ r. ⌜ r ≡ canLoad self f ⌝ }
-    {
-        f.starved() & !(self.registers.status & TDRE != 0)
-    }
-
     // ICDRT goes into a frame that waits for it.
-    pub fn load_transmit(self) -> Core
+    pub fn load_transmit(mut self) -> Core
         ensures { λ r. ⌜ r ≡ loadTransmitOf self ⌝ }
     {
         let frame = self.frame;
         let Framing::InFrame(f) = frame else {
             return self;
         };
-        if self.can_load(f) {
-            let loaded = f.filled(self.registers.tdr);
-            return self.raise(TDRE).with_frame(Framing::InFrame(loaded));
+        let loads = f.starved() & !(self.registers.status & TDRE != 0);
+        if loads {
+            self = self.raise(TDRE);
+            self = self.with_frame(Framing::InFrame(f.filled(self.registers.tdr)));
         }
         self
     }
 
-    fn fresh(self, address: bool) -> Frame
-        ensures { λ r. ⌜ r ≡ fresh address self ⌝ }
+    pub(crate) fn begin_frame(mut self, address: bool) -> Core
+        ensures { λ r. ⌜ r ≡ beginFrameOf address self ⌝ }
     {
         let master = self.registers.control & MST != 0;
         let sends = (self.registers.control & TRS != 0)
             & (master | (self.flags.selected & !address) | (self.registers.address & FS != 0));
         let whole = address | (self.registers.count == 0);
-        Frame {
+        let fresh = Frame {
             shift: 0,
             remaining: bits_of(whole, self.registers.count),
             phase: Phase::Data,
@@ -64,14 +59,9 @@ impl Core {
             transmit: sends,
             loaded: !sends,
             last: !sends & master & (self.registers.control & RCVD != 0),
-        }
-    }
-
-    pub(crate) fn begin_frame(self, address: bool) -> Core
-        ensures { λ r. ⌜ r ≡ beginFrameOf address self ⌝ }
-    {
-        let f = self.fresh(address);
-        self.with_frame(Framing::InFrame(f)).load_transmit()
+        };
+        self = self.with_frame(Framing::InFrame(fresh));
+        self.load_transmit()
     }
 
     // Another master has the bus: the outputs are released and the frame goes on as a receiver's.
@@ -98,13 +88,15 @@ impl Core {
     }
 
     // SCL is held low, except in synchronous mode.
-    pub fn set_hold(self, hold: Hold) -> Core
+    pub fn set_hold(mut self, hold: Hold) -> Core
         ensures { λ r. ⌜ r ≡ setHoldOf hold self ⌝ }
     {
         if self.synchronous() {
             return self;
         }
-        self.unclocked().drive_scl(false).with_hold(hold)
+        self.lines.drive.scl = false;
+        self = self.unclocked();
+        self.with_hold(hold)
     }
 
     // The ninth level, outside synchronous mode.
@@ -122,55 +114,26 @@ impl Core {
         self
     }
 
-    // Nothing more to send.
-    fn drained(self) -> Core
-        ensures { λ r. ⌜ r ≡ drainedOf self ⌝ }
-    {
-        let empty = self.registers.status & TDRE != 0;
-        self.raise(bus::flag(empty, TEND))
-    }
-
-    // A synchronous receive ended with RDRF set.
-    fn overrun(mut self) -> Core
-        ensures { λ r. ⌜ r ≡ overrunOf self ⌝ }
-    {
-        let status = self.registers.status | AL;
-        self.registers.status = status;
-        let control = self.registers.control & !MST;
-        self.registers.control = control;
-        self.lines.drive.scl = true;
-        self.unclocked()
-    }
-
-    fn stored(mut self, byte: u8) -> Core
-        ensures { λ r. ⌜ r ≡ storedOf byte self ⌝ }
-    {
-        let low_first = self.registers.mode & MLS != 0;
-        let rdr = ordered(low_first, byte);
-        self.registers.rdr = rdr;
-        let status = self.registers.status | RDRF;
-        self.registers.status = status;
-        self
-    }
-
-    fn received(self, byte: u8) -> Core
+    // A byte goes into ICDRR, unless a synchronous receive ended with RDRF set.
+    fn received(mut self, byte: u8) -> Core
         ensures { λ r. ⌜ r ≡ receivedOf byte self ⌝ }
     {
         let full = (self.registers.address & FS != 0) & (self.registers.status & RDRF != 0);
         if full {
-            self.overrun()
+            let status = self.registers.status | AL;
+            self.registers.status = status;
+            let control = self.registers.control & !MST;
+            self.registers.control = control;
+            self.lines.drive.scl = true;
+            self = self.unclocked();
         } else {
-            self.stored(byte)
+            let low_first = self.registers.mode & MLS != 0;
+            let rdr = ordered(low_first, byte);
+            self.registers.rdr = rdr;
+            let status = self.registers.status | RDRF;
+            self.registers.status = status;
         }
-    }
-
-    fn receives(self, f: Frame) -> bool
-        ensures { λ r. ⌜ r ≡ receives f self ⌝ }
-    {
-        ((self.registers.control & MST != 0)
-            | self.flags.selected
-            | (self.registers.address & FS != 0))
-            & !(f.address & bus::is_read(f.shift))
+        self
     }
 
     // A byte is through.
@@ -180,29 +143,27 @@ impl Core {
         self.registers.count = 0;
         self.flags.completed = true;
         if f.transmit {
-            return self.acknowledged(sda).drained();
+            self = self.acknowledged(sda);
+            let empty = self.registers.status & TDRE != 0;
+            return self.raise(bus::flag(empty, TEND));
         }
-        if self.receives(f) {
-            self.received(f.shift)
-        } else {
-            self
+        let receives = ((self.registers.control & MST != 0)
+            | self.flags.selected
+            | (self.registers.address & FS != 0))
+            & !(f.address & bus::is_read(f.shift));
+        if receives {
+            self = self.received(f.shift);
         }
+        self
     }
 
-    fn loses(self, f: Frame, sda: bool) -> bool
-        ensures { λ r. ⌜ r ≡ loses f sda self ⌝ }
-    {
-        f.transmit
-            & (self.registers.control & MST != 0)
-            & self.lines.drive.sda
-            & !sda
-            & !(self.registers.address & FS != 0)
-    }
-
-    fn when_lost(self, lost: bool) -> Core
+    pub(crate) fn when_lost(mut self, lost: bool) -> Core
         ensures { λ r. ⌜ r ≡ whenLostOf lost self ⌝ }
     {
-        if lost { self.arbitration_lost() } else { self }
+        if lost {
+            self = self.arbitration_lost();
+        }
+        self
     }
 
     fn select(mut self, byte: u8) -> Core
@@ -217,24 +178,19 @@ impl Core {
         self
     }
 
-    fn matched(mut self, byte: u8) -> Core
-        ensures { λ r. ⌜ r ≡ matchedOf byte self ⌝ }
-    {
-        let hit = (byte & SVA == self.registers.address & SVA) | bus::is_general_call(byte);
-        if hit {
-            self.flags.selected = true;
-            self.select(byte)
-        } else {
-            self.flags.selected = false;
-            self
-        }
-    }
-
-    fn addressed(self, f: Frame) -> Core
+    fn addressed(mut self, f: Frame) -> Core
         ensures { λ r. ⌜ r ≡ addressedOf f self ⌝ }
     {
         let asked = f.address & !(self.registers.control & MST != 0);
-        if asked { self.matched(f.shift) } else { self }
+        if asked {
+            let byte = f.shift;
+            let hit = (byte & SVA == self.registers.address & SVA) | bus::is_general_call(byte);
+            self.flags.selected = hit;
+            if hit {
+                self = self.select(byte);
+            }
+        }
+        self
     }
 
     fn finished(mut self, last: bool) -> Core
@@ -244,52 +200,48 @@ impl Core {
             self.flags.receive_stopped = true;
             self.flags.receive_enabled = false;
             self.lines.drive.scl = true;
-            return self.unclocked();
+            self = self.unclocked();
         }
         self
     }
 
-    fn end_synchronous(self, f: Frame, sda: bool) -> Core
+    fn end_synchronous(mut self, f: Frame, sda: bool) -> Core
         ensures { λ r. ⌜ r ≡ endSynchronousOf f sda self ⌝ }
     {
-        let s = self.complete_frame(f, sda).finished(f.last);
-        s.with_frame(Framing::InFrame(f.at(Phase::Done)))
+        self = self.complete_frame(f, sda);
+        self = self.finished(f.last);
+        self.with_frame(Framing::InFrame(f.at(Phase::Done)))
     }
 
-    fn last_bit(self, f: Frame, sda: bool) -> Core
+    fn last_bit(mut self, f: Frame, sda: bool) -> Core
         ensures { λ r. ⌜ r ≡ lastBitOf f sda self ⌝ }
     {
-        let s = self.addressed(f);
-        if s.synchronous() {
-            s.end_synchronous(f, sda)
-        } else {
-            s.with_frame(Framing::InFrame(f.at(Phase::Ack)))
+        self = self.addressed(f);
+        if self.synchronous() {
+            return self.end_synchronous(f, sda);
         }
+        self.with_frame(Framing::InFrame(f.at(Phase::Ack)))
     }
 
-    fn rising_data(self, f: Frame, sda: bool) -> Core
+    fn rising_data(mut self, f: Frame, sda: bool) -> Core
         ensures { λ r. ⌜ r ≡ risingDataOf f sda self ⌝ }
     {
-        let lost = self.loses(f, sda);
-        let s = self.when_lost(lost);
+        let lost = f.transmit
+            & (self.registers.control & MST != 0)
+            & self.lines.drive.sda
+            & !sda
+            & !(self.registers.address & FS != 0);
+        self = self.when_lost(lost);
         let g = f.sampled(lost, sda);
         let ended = g.remaining == 0;
         if ended {
-            s.last_bit(g, sda)
-        } else {
-            s.with_frame(Framing::InFrame(g))
+            return self.last_bit(g, sda);
         }
-    }
-
-    fn rising_ack(self, f: Frame, sda: bool) -> Core
-        ensures { λ r. ⌜ r ≡ risingAckOf f sda self ⌝ }
-    {
-        let s = self.complete_frame(f, sda);
-        s.with_frame(Framing::InFrame(f.at(Phase::Done)))
+        self.with_frame(Framing::InFrame(g))
     }
 
     // The clock has risen: SDA is sampled.
-    pub fn rising(self, sda: bool) -> Core
+    pub fn rising(mut self, sda: bool) -> Core
         ensures { λ r. ⌜ r ≡ risingOf sda self ⌝ }
     {
         let frame = self.frame;
@@ -301,9 +253,15 @@ impl Core {
         }
         let phase = f.phase;
         match phase {
-            Phase::Data => self.rising_data(f, sda),
-            Phase::Ack => self.rising_ack(f, sda),
-            Phase::Done => self,
+            Phase::Data => {
+                self = self.rising_data(f, sda);
+            }
+            Phase::Ack => {
+                self = self.complete_frame(f, sda);
+                self = self.with_frame(Framing::InFrame(f.at(Phase::Done)));
+            }
+            Phase::Done => {}
         }
+        self
     }
 }

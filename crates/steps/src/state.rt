@@ -152,20 +152,6 @@ impl Core {
         self
     }
 
-    pub fn drive_scl(mut self, level: bool) -> Core
-        ensures { λ r. ⌜ r ≡ driveScl level self ⌝ }
-    {
-        self.lines.drive.scl = level;
-        self
-    }
-
-    pub fn drive_sda(mut self, level: bool) -> Core
-        ensures { λ r. ⌜ r ≡ driveSda level self ⌝ }
-    {
-        self.lines.drive.sda = level;
-        self
-    }
-
     pub fn enabled(self) -> bool
         ensures { λ r. ⌜ r ≡ enabled self ⌝ }
     {
@@ -201,47 +187,40 @@ impl Core {
         ensures { λ r. ⌜ r ≡ framed self ⌝ }
     {
         let frame = self.frame;
-        match frame {
-            Framing::NoFrame => false,
-            Framing::InFrame(_) => true,
-        }
+        let Framing::NoFrame = frame else {
+            return true;
+        };
+        false
     }
 
     pub fn conditioned(self) -> bool
         ensures { λ r. ⌜ r ≡ conditioned self ⌝ }
     {
         let condition = self.condition;
-        match condition {
-            Condition::NoCondition => false,
-            Condition::StartRelease => true,
-            Condition::StartHigh => true,
-            Condition::StartHold => true,
-            Condition::StopLow => true,
-            Condition::StopHigh => true,
-            Condition::StopRelease => true,
-            Condition::StopDetect => true,
-        }
+        let Condition::NoCondition = condition else {
+            return true;
+        };
+        false
     }
 
     pub fn commanded(self) -> bool
         ensures { λ r. ⌜ r ≡ commanded self ⌝ }
     {
         let command = self.command;
-        match command {
-            Command::NoCommand => false,
-            Command::Commanded(_) => true,
-        }
+        let Command::NoCommand = command else {
+            return true;
+        };
+        false
     }
 
     pub fn held(self) -> bool
         ensures { λ r. ⌜ r ≡ held self ⌝ }
     {
         let hold = self.hold;
-        match hold {
-            Hold::NoHold => false,
-            Hold::Transmit => true,
-            Hold::Receive => true,
-        }
+        let Hold::NoHold = hold else {
+            return true;
+        };
+        false
     }
 
     // All that is under way stops, and both lines are released.
@@ -269,10 +248,9 @@ impl Hold {
     pub fn is_transmit(self) -> bool
         ensures { λ r. ⌜ r ≡ isTransmitHold self ⌝ }
     {
-        match self {
-            Hold::NoHold => false,
-            Hold::Transmit => true,
-            Hold::Receive => false,
-        }
+        let Hold::Transmit = self else {
+            return false;
+        };
+        true
     }
 }

@@ -1,9 +1,10 @@
 // The registers as the host writes them.
 ghost use mathlib.Core.Path.{_≡_};
-ghost use Rattle.steps.specs.Access.{controlSet, earlyStop, enterResetOf, giveDataOf, givesCommand, pullSdaOf, redirected, stopReceiveOf, takeControlOf, takesCommand, writeAddressOf, writeEnableOf, writeModeOf, writeStatusOf};
+ghost use Rattle.steps.specs.Access.{enterResetOf, giveDataOf, pullSdaOf, redirected, stopReceiveOf, takeControlOf, takesCommand, writeModeOf, writePlain};
 ghost use Rattle.steps.specs.Setters.{setReset};
 ghost use mathlib.Core.Bool.{false};
 use super::Core;
+use super::Register;
 use super::bits::ACKBR;
 use super::bits::ACKE;
 use super::bits::BBSY;
@@ -37,20 +38,17 @@ impl Core {
         self.with_frame(next)
     }
 
-    fn control_set(mut self, value: u8) -> Core
-        ensures { λ r. ⌜ r ≡ controlSet value self ⌝ }
-    {
-        let comes = !(self.registers.control & TRS != 0) & (value & TRS != 0);
-        self.registers.control = value;
-        self.raise(bus::flag(comes, TDRE))
-    }
-
-    pub fn take_control(self, value: u8) -> Core
+    pub fn take_control(mut self, value: u8) -> Core
         ensures { λ r. ⌜ r ≡ takeControlOf value self ⌝ }
     {
         let same = self.registers.control & 0x30 == value & 0x30;
-        let s = self.control_set(value);
-        if same { s } else { s.redirect(value) }
+        let comes = !(self.registers.control & TRS != 0) & (value & TRS != 0);
+        self.registers.control = value;
+        self = self.raise(bus::flag(comes, TDRE));
+        if same {
+            return self;
+        }
+        self.redirect(value)
     }
 
     // A synchronous receiver with RCVD and no frame receives nothing.
@@ -71,58 +69,41 @@ impl Core {
     {
         let transmit = self.registers.control & TRS != 0;
         self.flags.reset = true;
-        self.stop_shifter().raise(bus::flag(transmit, TDRE))
+        self = self.stop_shifter();
+        self.raise(bus::flag(transmit, TDRE))
     }
 
     // SDA as SDAO asks, where SDAOP is 0.
-    pub fn pull_sda(self, value: u8) -> Core
+    pub fn pull_sda(mut self, value: u8) -> Core
         ensures { λ r. ⌜ r ≡ pullSdaOf value self ⌝ }
     {
         let protected = value & SDAOP != 0;
         if protected {
-            self
-        } else {
-            self.drive_sda(value & SDAO != 0)
+            return self;
         }
-    }
-
-    fn gives_command(self, value: u8) -> bool
-        ensures { λ r. ⌜ r ≡ givesCommand value self ⌝ }
-    {
-        !(value & SCP != 0)
-            & (self.registers.control & MST != 0)
-            & !(self.registers.address & FS != 0)
-            & (self.registers.control & ICE != 0)
-    }
-
-    // A stop before the ninth falling edge, which ACKE loses.
-    fn early_stop(self, value: u8) -> bool
-        ensures { λ r. ⌜ r ≡ earlyStop value self ⌝ }
-    {
-        let frame = self.frame;
-        !(value & BBSY != 0)
-            & (self.registers.enable & ACKE != 0)
-            & (self.registers.control & TRS != 0)
-            & self.lines.filtered.scl
-            & frame.is_done_in()
-    }
-
-    // A start or a stop is asked for, and not lost.
-    pub fn takes_command(self, value: u8) -> bool
-        ensures { λ r. ⌜ r ≡ takesCommand value self ⌝ }
-    {
-        self.gives_command(value) & !self.early_stop(value)
-    }
-
-    // The reset is over.
-    pub fn lifted(mut self) -> Core
-        ensures { λ r. ⌜ r ≡ setReset false self ⌝ }
-    {
-        self.flags.reset = false;
+        let level = value & SDAO != 0;
+        self.lines.drive.sda = level;
         self
     }
 
-    pub fn write_mode(mut self, value: u8) -> Core
+    // A start or a stop is asked for, and isn't a stop before the ninth falling edge, which ACKE loses.
+    pub fn takes_command(self, value: u8) -> bool
+        ensures { λ r. ⌜ r ≡ takesCommand value self ⌝ }
+    {
+        let given = !(value & SCP != 0)
+            & (self.registers.control & MST != 0)
+            & !(self.registers.address & FS != 0)
+            & (self.registers.control & ICE != 0);
+        let frame = self.frame;
+        let lost = !(value & BBSY != 0)
+            & (self.registers.enable & ACKE != 0)
+            & (self.registers.control & TRS != 0)
+            & self.lines.filtered.scl
+            & frame.is_done_in();
+        given & !lost
+    }
+
+    fn write_mode(mut self, value: u8) -> Core
         ensures { λ r. ⌜ r ≡ writeModeOf value self ⌝ }
     {
         let protected = value & BCWP != 0;
@@ -137,33 +118,32 @@ impl Core {
         self.with_frame(frame.recounted_in(count))
     }
 
-    // ACKBR is read only.
-    pub fn write_enable(mut self, value: u8) -> Core
-        ensures { λ r. ⌜ r ≡ writeEnableOf value self ⌝ }
+    // The registers whose write alone starts no wait: in ICIER ACKBR is read only; in ICSR flags both in `seen` and written 0 are
+    // cleared; synchronous mode, in SAR, knows no busy bus.
+    pub fn write_plain(mut self, register: Register, value: u8) -> Core
+        ensures { λ r. ⌜ r ≡ writePlain register value self ⌝ }
     {
-        let enable = (value & !ACKBR) | (self.registers.enable & ACKBR);
-        self.registers.enable = enable;
-        self
-    }
-
-    // Flags both in `seen` and written 0 are cleared.
-    pub fn write_status(mut self, value: u8) -> Core
-        ensures { λ r. ⌜ r ≡ writeStatusOf value self ⌝ }
-    {
-        let status = self.registers.status & !(self.registers.seen & !value);
-        let seen = self.registers.seen & status;
-        self.registers.status = status;
-        self.registers.seen = seen;
-        self
-    }
-
-    // Synchronous mode knows no busy bus.
-    pub fn write_address(mut self, value: u8) -> Core
-        ensures { λ r. ⌜ r ≡ writeAddressOf value self ⌝ }
-    {
-        let busy = self.flags.busy & !(value & FS != 0);
-        self.flags.busy = busy;
-        self.registers.address = value;
+        match register {
+            Register::ICMR => {
+                self = self.write_mode(value);
+            }
+            Register::ICIER => {
+                let enable = (value & !ACKBR) | (self.registers.enable & ACKBR);
+                self.registers.enable = enable;
+            }
+            Register::ICSR => {
+                let status = self.registers.status & !(self.registers.seen & !value);
+                let seen = self.registers.seen & status;
+                self.registers.status = status;
+                self.registers.seen = seen;
+            }
+            Register::SAR => {
+                let busy = self.flags.busy & !(value & FS != 0);
+                self.flags.busy = busy;
+                self.registers.address = value;
+            }
+            _ => {}
+        }
         self
     }
 

@@ -18,19 +18,19 @@ clock-condition-requires c κs = tt
 is-start-hold-requires : tie.Need-is-start-hold-requires
 is-start-hold-requires c κs = tt
 
-clock-with-requires : tie.Need-clock-with-requires
-clock-with-requires c κs = tt
+start-clock-requires : tie.Need-start-clock-requires
+start-clock-requires c κs = tt
 
 returns-2 : tie.Need-returns-2
 unfolding clockStepOf
-returns-2 c = simp (c .clock-with .ensures, c .before .if2 .taken, ← c .before .before .is-start-hold .ensures, c .before .before .before .clock-condition .ensures, c .before .before .before .before .if1 .left, ← c .before .before .before .before .before .conditioned .ensures)
+returns-2 c = simp (c .start-clock .ensures, c .before .if2 .taken, ← c .before .before .is-start-hold .ensures, ← c .before .before .before .clock-condition .ensures, c .before .before .before .before .if1 .left, ← c .before .before .before .before .before .conditioned .ensures)
 
-finished-with-requires : tie.Need-finished-with-requires
-finished-with-requires c κs = tt
+fine-requires : tie.Need-fine-requires
+fine-requires c κs = tt
 
 returns-3 : tie.Need-returns-3
 unfolding clockStepOf
-returns-3 c = simp (c .finished-with .ensures, c .before .if2 .left, ← c .before .before .is-start-hold .ensures, c .before .before .before .clock-condition .ensures, c .before .before .before .before .if1 .left, ← c .before .before .before .before .before .conditioned .ensures)
+returns-3 c = simp (c .fine .ensures, c .before .if2 .left, ← c .before .before .is-start-hold .ensures, ← c .before .before .before .clock-condition .ensures, c .before .before .before .before .if1 .left, ← c .before .before .before .before .before .conditioned .ensures)
 
 pub clock-step-spec : {M : Type 1} → statement M
-clock-step-spec = tie.close (tie.spec conditioned-requires toggle-requires returns clock-condition-requires is-start-hold-requires clock-with-requires returns-2 finished-with-requires returns-3)
+clock-step-spec = tie.close (tie.spec conditioned-requires toggle-requires returns clock-condition-requires is-start-hold-requires start-clock-requires returns-2 fine-requires returns-3)

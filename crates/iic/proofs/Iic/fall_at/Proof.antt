@@ -1,3 +1,5 @@
+use mathlib.Core.Logic.{inl, inr}
+use Rattle.iic.specs.Edges.{fallAckOf, insertWaitOf}
 use borrow.Author.Needs.{needs}
 use Rattle.iic.proofs.Iic.fall_at.Statement.{statement}
 use Rattle.iic.proofs.Iic.fall_at.Tie as tie
@@ -11,14 +13,21 @@ load-transmit-requires c κs = tt
 fall-data-requires : tie.Need-fall-data-requires
 fall-data-requires c κs = tt
 
-finished-with-requires : tie.Need-finished-with-requires
-finished-with-requires c κs = tt
-
 enum-told-2 : tie.Need-enum-told-2
 enum-told-2 c = search needs
 
-fall-ack-requires : tie.Need-fall-ack-requires
-fall-ack-requires c κs = tt
+take-fall-requires : tie.Need-take-fall-requires
+take-fall-requires c κs = tt
+
+inserts-wait-requires : tie.Need-inserts-wait-requires
+inserts-wait-requires c κs = tt
+
+longer-requires : tie.Need-longer-requires
+longer-requires c κs = tt
+
+returns : tie.Need-returns
+unfolding fallAckOf insertWaitOf
+returns c = simp (c .longer .ensures, c .before .if1 .taken, ← c .before .before .inserts-wait .ensures, ← c .before .before .before .take-fall .ensures, c .before .before .before .before .enum-told2 .given .1)
 
 enum-told-3 : tie.Need-enum-told-3
 enum-told-3 c = search needs
@@ -26,14 +35,14 @@ enum-told-3 c = search needs
 fine-requires : tie.Need-fine-requires
 fine-requires c κs = tt
 
-returns : tie.Need-returns
-returns c = simp (c .finished-with .ensures, c .before .fall-data .ensures, c .before .before .load-transmit .ensures, c .before .before .before .enum-told .given .1)
-
 returns-2 : tie.Need-returns-2
-returns-2 c = simp (c .fall-ack .ensures, c .before .enum-told2 .given .1)
-
-returns-3 : tie.Need-returns-3
-returns-3 c = simp (c .fine .ensures, c .before .enum-told3 .given .1)
+unfolding fallAckOf insertWaitOf
+returns-2 c =
+    elim (c .before .match .came) [
+      | inl x ↦ simp (c .fine .ensures, x .4, ← x .3 .ensures, ← x .2 .ensures, x .1 .given .1)
+      | inr (inl x) ↦ simp (c .fine .ensures, x .5, x .4 .left, ← x .3 .ensures, ← x .2 .ensures, x .1 .given .1)
+      | inr (inr x) ↦ simp (c .fine .ensures, x .2, x .1 .given .1)
+    ]
 
 pub fall-at-spec : {M : Type 1} → statement M
-fall-at-spec = tie.close (tie.spec enum-told load-transmit-requires fall-data-requires finished-with-requires enum-told-2 fall-ack-requires enum-told-3 fine-requires returns returns-2 returns-3)
+fall-at-spec = tie.close (tie.spec enum-told load-transmit-requires fall-data-requires enum-told-2 take-fall-requires inserts-wait-requires longer-requires returns enum-told-3 fine-requires returns-2)

@@ -11,17 +11,17 @@ with-filter-wait-requires c κs = tt
 fine-requires : tie.Need-fine-requires
 fine-requires c κs = tt
 
+returns : tie.Need-returns
+returns c = simp (c .fine .ensures, c .before .with-filter-wait .ensures, c .before .before .before .made .given .1)
+
 enum-known-made-2 : tie.Need-enum-known-made-2
 enum-known-made-2 c = search needs
 
 refused-requires : tie.Need-refused-requires
 refused-requires c κs = tt
 
-returns : tie.Need-returns
-returns c = simp (c .fine .ensures, c .before .with-filter-wait .ensures, c .before .before .before .made .given .1)
-
 returns-2 : tie.Need-returns-2
 returns-2 c = simp (c .refused .ensures, c .before .before .made2 .given .1)
 
 pub filter-from-spec : {M : Type 1} → statement M
-filter-from-spec = tie.close (tie.spec enum-known-made with-filter-wait-requires fine-requires enum-known-made-2 refused-requires returns returns-2)
+filter-from-spec = tie.close (tie.spec enum-known-made with-filter-wait-requires fine-requires returns enum-known-made-2 refused-requires returns-2)

@@ -5,28 +5,25 @@ use Rattle.iic.proofs.Iic.filtered_edges.Tie as tie
 bus-edge-requires : tie.Need-bus-edge-requires
 bus-edge-requires c κs = tt
 
-with-core-requires : tie.Need-with-core-requires
-with-core-requires c κs = tt
-
 fine-requires : tie.Need-fine-requires
 fine-requires c κs = tt
 
 returns : tie.Need-returns
 unfolding filteredEdgesOf
-returns c = simp (c .fine .ensures, c .before .if1 .taken, c .before .before .with-core .ensures, ← c .before .before .before .bus-edge .ensures)
+returns c = simp (c .fine .ensures, c .before .if1 .taken, ← c .before .before .bus-edge .ensures)
 
 stretched-requires : tie.Need-stretched-requires
 stretched-requires c κs = tt
 
-then-condition-step-requires : tie.Need-then-condition-step-requires
-then-condition-step-requires c κs = tt
+condition-step-requires : tie.Need-condition-step-requires
+condition-step-requires c κs = tt
 
-then-scl-edge-requires : tie.Need-then-scl-edge-requires
-then-scl-edge-requires c κs = tt
+scl-edge-requires : tie.Need-scl-edge-requires
+scl-edge-requires c κs = tt
 
 returns-2 : tie.Need-returns-2
 unfolding filteredEdgesOf
-returns-2 c = simp (c .then-scl-edge .ensures, c .before .then-condition-step .ensures, c .before .before .stretched .ensures, c .before .before .before .if1 .left, c .before .before .before .before .with-core .ensures, ← c .before .before .before .before .before .bus-edge .ensures)
+returns-2 c = simp (c .scl-edge .ensures, c .before .condition-step .ensures, ← c .before .before .stretched .ensures, c .before .before .before .if1 .left, ← c .before .before .before .before .bus-edge .ensures)
 
 pub filtered-edges-spec : {M : Type 1} → statement M
-filtered-edges-spec = tie.close (tie.spec bus-edge-requires with-core-requires fine-requires returns stretched-requires then-condition-step-requires then-scl-edge-requires returns-2)
+filtered-edges-spec = tie.close (tie.spec bus-edge-requires fine-requires returns stretched-requires condition-step-requires scl-edge-requires returns-2)

@@ -1,4 +1,5 @@
-use Rattle.iic.specs.Access.{readDataOf}
+use mathlib.Core.Logic.{inl, inr}
+use Rattle.iic.specs.Access.{readDataOf, resumedOf}
 use Rattle.iic.proofs.Iic.read_data.Statement.{statement}
 use Rattle.iic.proofs.Iic.read_data.Tie as tie
 
@@ -8,28 +9,35 @@ taken-requires c κs = tt
 transmit-requires : tie.Need-transmit-requires
 transmit-requires c κs = tt
 
-finished-with-requires : tie.Need-finished-with-requires
-finished-with-requires c κs = tt
+fine-requires : tie.Need-fine-requires
+fine-requires c κs = tt
 
 returns : tie.Need-returns
-unfolding readDataOf
-returns c = simp (c .finished-with .ensures, c .before .if1 .taken, ← c .before .before .transmit .ensures, ← c .before .before .before .taken .ensures)
+unfolding readDataOf resumedOf
+returns c = simp (c .fine .ensures, c .before .if1 .taken, ← c .before .before .transmit .ensures, ← c .before .before .before .taken .ensures)
 
 continued-requires : tie.Need-continued-requires
 continued-requires c κs = tt
 
-with-core-requires : tie.Need-with-core-requires
-with-core-requires c κs = tt
+fine-requires-2 : tie.Need-fine-requires-2
+fine-requires-2 c κs = tt
 
-resumed-requires : tie.Need-resumed-requires
-resumed-requires c κs = tt
+held-requires : tie.Need-held-requires
+held-requires c κs = tt
 
-then-kick-requires : tie.Need-then-kick-requires
-then-kick-requires c κs = tt
+release-hold-requires : tie.Need-release-hold-requires
+release-hold-requires c κs = tt
+
+kick-requires : tie.Need-kick-requires
+kick-requires c κs = tt
 
 returns-2 : tie.Need-returns-2
-unfolding readDataOf
-returns-2 c = simp (c .then-kick .ensures, c .before .resumed .ensures, c .before .before .with-core .ensures, c .before .before .before .continued .ensures, c .before .before .before .before .if1 .left, ← c .before .before .before .before .before .transmit .ensures, ← c .before .before .before .before .before .before .taken .ensures)
+unfolding readDataOf resumedOf
+returns-2 c =
+    elim (c .before .if2 .came) [
+      | inl x ↦ simp (c .kick .ensures, x .2, x .1 .ensures, c .before .before .before .before .before .if1 .left, ← c .before .before .before .before .before .before .transmit .ensures, ← c .before .before .before .before .continued .ensures, ← c .before .before .before .before .before .before .before .taken .ensures, x .0 .taken, ← c .before .before .held .ensures)
+      | inr x ↦ simp (c .kick .ensures, x .1, c .before .before .before .fine2 .ensures, c .before .before .before .before .before .if1 .left, ← c .before .before .before .before .before .before .transmit .ensures, ← c .before .before .before .before .continued .ensures, ← c .before .before .before .before .before .before .before .taken .ensures, x .0 .left, ← c .before .before .held .ensures)
+    ]
 
 pub read-data-spec : {M : Type 1} → statement M
-read-data-spec = tie.close (tie.spec taken-requires transmit-requires finished-with-requires returns continued-requires with-core-requires resumed-requires then-kick-requires returns-2)
+read-data-spec = tie.close (tie.spec taken-requires transmit-requires fine-requires returns continued-requires fine-requires-2 held-requires release-hold-requires kick-requires returns-2)

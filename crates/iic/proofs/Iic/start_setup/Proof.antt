@@ -20,7 +20,7 @@ setup-from-requires c κs = tt
 
 returns : tie.Need-returns
 unfolding startSetupOf
-returns c = simp (c .setup-from .ensures, ← (rw (c .before .before .system .ensures) at (c .before .after .ensures)), ← c .before .before .before .setup-cycles .ensures)
+returns c = simp (c .setup-from .ensures, c .before .after .ensures, c .before .before .system .ensures, c .before .before .before .setup-cycles .ensures)
 
 pub start-setup-spec : {M : Type 1} → statement M
 start-setup-spec = tie.close (tie.spec setup-cycles-requires cast-cycles system-requires after-requires setup-from-requires returns)

@@ -2,19 +2,22 @@ use Rattle.iic.specs.Edges.{stretchedOf}
 use Rattle.iic.proofs.Iic.stretched.Statement.{statement}
 use Rattle.iic.proofs.Iic.stretched.Tie as tie
 
+fine-requires : tie.Need-fine-requires
+fine-requires c κs = tt
+
 turn-clock-requires : tie.Need-turn-clock-requires
 turn-clock-requires c κs = tt
 
 returns : tie.Need-returns
 unfolding stretchedOf
-returns c = simp (c .turn-clock .ensures, c .before .before .if1 .taken)
+returns c = simp (c .turn-clock .ensures, c .before .fine .ensures, c .before .before .before .if1 .taken)
 
-fine-requires : tie.Need-fine-requires
-fine-requires c κs = tt
+fine-requires-2 : tie.Need-fine-requires-2
+fine-requires-2 c κs = tt
 
 returns-2 : tie.Need-returns-2
 unfolding stretchedOf
-returns-2 c = simp (c .fine .ensures, c .before .if1 .left)
+returns-2 c = simp (c .fine2 .ensures, c .before .if1 .left)
 
 pub stretched-spec : {M : Type 1} → statement M
-stretched-spec = tie.close (tie.spec turn-clock-requires returns fine-requires returns-2)
+stretched-spec = tie.close (tie.spec fine-requires turn-clock-requires returns fine-requires-2 returns-2)

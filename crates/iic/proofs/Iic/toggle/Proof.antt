@@ -1,4 +1,5 @@
 use Rattle.iic.specs.Clocking.{toggleOf}
+use borrow.Author.Needs.{needs}
 use Rattle.iic.proofs.Iic.toggle.Statement.{statement}
 use Rattle.iic.proofs.Iic.toggle.Tie as tie
 
@@ -8,18 +9,18 @@ master-requires c κs = tt
 held-requires : tie.Need-held-requires
 held-requires c κs = tt
 
-drive-scl-requires : tie.Need-drive-scl-requires
-drive-scl-requires c κs = tt
+way-write-given-self : tie.Need-way-write-given-self
+way-write-given-self c = search needs
 
-clock-with-requires : tie.Need-clock-with-requires
-clock-with-requires c κs = tt
+start-clock-requires : tie.Need-start-clock-requires
+start-clock-requires c κs = tt
 
-then-monitor-step-requires : tie.Need-then-monitor-step-requires
-then-monitor-step-requires c κs = tt
+monitor-step-requires : tie.Need-monitor-step-requires
+monitor-step-requires c κs = tt
 
 returns : tie.Need-returns
 unfolding toggleOf
-returns c = simp (c .then-monitor-step .ensures, c .before .clock-with .ensures, c .before .before .drive-scl .ensures, c .before .before .before .before .if1 .taken, ← c .before .before .before .before .before .held .ensures, ← c .before .before .before .before .before .before .master .ensures)
+returns c = simp (c .monitor-step .ensures, ← c .before .start-clock .ensures, c .before .before .before .before .if1 .taken, ← c .before .before .before .before .before .held .ensures, ← c .before .before .before .before .before .before .master .ensures)
 
 fine-requires : tie.Need-fine-requires
 fine-requires c κs = tt
@@ -29,4 +30,4 @@ unfolding toggleOf
 returns-2 c = simp (c .fine .ensures, c .before .if1 .left, ← c .before .before .held .ensures, ← c .before .before .before .master .ensures)
 
 pub toggle-spec : {M : Type 1} → statement M
-toggle-spec = tie.close (tie.spec master-requires held-requires drive-scl-requires clock-with-requires then-monitor-step-requires returns fine-requires returns-2)
+toggle-spec = tie.close (tie.spec master-requires held-requires way-write-given-self start-clock-requires monitor-step-requires returns fine-requires returns-2)

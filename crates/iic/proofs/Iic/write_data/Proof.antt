@@ -1,22 +1,33 @@
-use Rattle.iic.specs.Access.{writeDataOf}
+use mathlib.Core.Logic.{inl, inr}
+use Rattle.iic.specs.Access.{writeDataOf, sendOnOf}
 use Rattle.iic.proofs.Iic.write_data.Statement.{statement}
 use Rattle.iic.proofs.Iic.write_data.Tie as tie
 
 give-data-requires : tie.Need-give-data-requires
 give-data-requires c κs = tt
 
-with-core-requires : tie.Need-with-core-requires
-with-core-requires c κs = tt
+fine-requires : tie.Need-fine-requires
+fine-requires c κs = tt
 
-send-on-requires : tie.Need-send-on-requires
-send-on-requires c κs = tt
+is-transmit-requires : tie.Need-is-transmit-requires
+is-transmit-requires c κs = tt
 
-then-kick-requires : tie.Need-then-kick-requires
-then-kick-requires c κs = tt
+load-transmit-requires : tie.Need-load-transmit-requires
+load-transmit-requires c κs = tt
+
+release-hold-requires : tie.Need-release-hold-requires
+release-hold-requires c κs = tt
+
+kick-requires : tie.Need-kick-requires
+kick-requires c κs = tt
 
 returns : tie.Need-returns
-unfolding writeDataOf
-returns c = simp (c .then-kick .ensures, c .before .send-on .ensures, c .before .before .with-core .ensures, c .before .before .before .give-data .ensures)
+unfolding writeDataOf sendOnOf
+returns c =
+    elim (c .before .if1 .came) [
+      | inl x ↦ simp (c .kick .ensures, x .3, x .2 .ensures, x .1 .ensures, ← c .before .before .before .before .before .give-data .ensures, x .0 .taken, ← c .before .before .is-transmit .ensures)
+      | inr x ↦ simp (c .kick .ensures, x .1, c .before .before .before .fine .ensures, ← c .before .before .before .before .before .give-data .ensures, x .0 .left, ← c .before .before .is-transmit .ensures)
+    ]
 
 pub write-data-spec : {M : Type 1} → statement M
-write-data-spec = tie.close (tie.spec give-data-requires with-core-requires send-on-requires then-kick-requires returns)
+write-data-spec = tie.close (tie.spec give-data-requires fine-requires is-transmit-requires load-transmit-requires release-hold-requires kick-requires returns)

@@ -2,8 +2,8 @@ use Rattle.steps.specs.Shift.{beginFrameOf}
 use Rattle.steps.proofs.Core.begin_frame.Statement.{statement}
 use Rattle.steps.proofs.Core.begin_frame.Tie as tie
 
-fresh-requires : tie.Need-fresh-requires
-fresh-requires c κs = tt
+bits-of-requires : tie.Need-bits-of-requires
+bits-of-requires c κs = tt
 
 with-frame-requires : tie.Need-with-frame-requires
 with-frame-requires c κs = tt
@@ -13,7 +13,7 @@ load-transmit-requires c κs = tt
 
 returns : tie.Need-returns
 unfolding beginFrameOf
-returns c = simp (c .load-transmit .ensures, c .before .with-frame .ensures, c .before .before .fresh .ensures)
+returns c = simp (c .load-transmit .ensures, c .before .with-frame .ensures, c .before .before .before .bits-of .ensures)
 
 pub begin-frame-spec : {M : Type 1} → statement M
-begin-frame-spec = tie.close (tie.spec fresh-requires with-frame-requires load-transmit-requires returns)
+begin-frame-spec = tie.close (tie.spec bits-of-requires with-frame-requires load-transmit-requires returns)

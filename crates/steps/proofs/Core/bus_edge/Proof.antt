@@ -15,15 +15,15 @@ is-stop-requires c κs = tt
 bus-stop-requires : tie.Need-bus-stop-requires
 bus-stop-requires c κs = tt
 
-returns-2 : tie.Need-returns-2
-unfolding busEdgeOf
-returns-2 c = simp (c .bus-stop .ensures, c .before .if2 .taken, ← c .before .before .is-stop .ensures, c .before .before .before .before .before .if1 .left, ← c .before .before .before .before .before .before .synchronous .ensures)
-
 is-start-requires : tie.Need-is-start-requires
 is-start-requires c κs = tt
 
 bus-start-requires : tie.Need-bus-start-requires
 bus-start-requires c κs = tt
+
+returns-2 : tie.Need-returns-2
+unfolding busEdgeOf
+returns-2 c = simp (c .bus-stop .ensures, c .before .if2 .taken, ← c .before .before .is-stop .ensures, c .before .before .before .before .before .if1 .left, ← c .before .before .before .before .before .before .synchronous .ensures)
 
 returns-3 : tie.Need-returns-3
 unfolding busEdgeOf
@@ -34,4 +34,4 @@ unfolding busEdgeOf
 returns-4 c = simp (c .if3 .left, ← c .before .is-start .ensures, c .before .before .if2 .left, ← c .before .before .before .is-stop .ensures, c .before .before .before .before .before .before .if1 .left, ← c .before .before .before .before .before .before .before .synchronous .ensures)
 
 pub bus-edge-spec : {M : Type 1} → statement M
-bus-edge-spec = tie.close (tie.spec synchronous-requires returns is-stop-requires bus-stop-requires returns-2 is-start-requires bus-start-requires returns-3 returns-4)
+bus-edge-spec = tie.close (tie.spec synchronous-requires returns is-stop-requires bus-stop-requires is-start-requires bus-start-requires returns-2 returns-3 returns-4)

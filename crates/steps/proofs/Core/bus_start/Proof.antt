@@ -1,16 +1,19 @@
-use Rattle.steps.specs.Conditions.{busStartOf}
+use mathlib.Core.Path.{_∙_, sym}
+use Rattle.steps.proofs.Laws.{start-as}
 use Rattle.steps.proofs.Core.bus_start.Statement.{statement}
 use Rattle.steps.proofs.Core.bus_start.Tie as tie
 
-lose-start-requires : tie.Need-lose-start-requires
-lose-start-requires c κs = tt
-
-begin-address-requires : tie.Need-begin-address-requires
-begin-address-requires c κs = tt
+when-lost-requires : tie.Need-when-lost-requires
+when-lost-requires c κs = tt
 
 returns : tie.Need-returns
-unfolding busStartOf
-returns c = simp (c .begin-address .ensures, ← c .before .before .before .before .before .lose-start .ensures)
+returns c = sym (rw (c .if1 .taken)) ∙ start-as (c .before .before .before .before .before .before .before .before .args .self) (c .before .before .before .before .before .when-lost .result) (c .before .before .before .before .before .when-lost .ensures)
+
+begin-frame-requires : tie.Need-begin-frame-requires
+begin-frame-requires c κs = tt
+
+returns-2 : tie.Need-returns-2
+returns-2 c = c .begin-frame .ensures ∙ sym (rw (c .before .if1 .left)) ∙ start-as (c .before .before .before .before .before .before .before .before .before .args .self) (c .before .before .before .before .before .before .when-lost .result) (c .before .before .before .before .before .before .when-lost .ensures)
 
 pub bus-start-spec : {M : Type 1} → statement M
-bus-start-spec = tie.close (tie.spec lose-start-requires begin-address-requires returns)
+bus-start-spec = tie.close (tie.spec when-lost-requires returns begin-frame-requires returns-2)

@@ -16,16 +16,16 @@ returns c = simp (c .enum-told .given .1)
 is-done-requires : tie.Need-is-done-requires
 is-done-requires c κs = tt
 
-end-with-requires : tie.Need-end-with-requires
-end-with-requires c κs = tt
+with-frame-requires : tie.Need-with-frame-requires
+with-frame-requires c κs = tt
 
 returns-2 : tie.Need-returns-2
 unfolding endFrameOf
-returns-2 c = simp (c .end-with .ensures, c .before .if1 .taken, ← c .before .before .is-done .ensures, c .before .before .before .before .frame .given .1)
+returns-2 c = simp (c .with-frame .ensures, c .before .before .before .before .before .before .before .before .if1 .taken, ← c .before .before .before .before .before .before .before .before .before .is-done .ensures, c .before .before .before .before .before .before .before .before .before .before .before .frame .given .1)
 
 returns-3 : tie.Need-returns-3
 unfolding endFrameOf
 returns-3 c = simp (c .if1 .left, ← c .before .is-done .ensures, c .before .before .before .frame .given .1)
 
 pub end-frame-spec : {M : Type 1} → statement M
-end-frame-spec = tie.close (tie.spec enum-known-frame enum-told returns is-done-requires end-with-requires returns-2 returns-3)
+end-frame-spec = tie.close (tie.spec enum-known-frame enum-told returns is-done-requires with-frame-requires returns-2 returns-3)

@@ -1,4 +1,4 @@
-use Rattle.steps.specs.Falls.{fallDataOf}
+use Rattle.steps.specs.Falls.{fallDataOf, holdTransmitOf}
 use borrow.Author.Needs.{needs}
 use Rattle.steps.proofs.Core.fall_data.Statement.{statement}
 use Rattle.steps.proofs.Core.fall_data.Tie as tie
@@ -10,28 +10,32 @@ enum-told : tie.Need-enum-told
 enum-told c = search needs
 
 returns : tie.Need-returns
-unfolding fallDataOf
+unfolding fallDataOf holdTransmitOf
 returns c = simp (c .enum-told .given .1)
 
 starved-requires : tie.Need-starved-requires
 starved-requires c κs = tt
 
-hold-transmit-requires : tie.Need-hold-transmit-requires
-hold-transmit-requires c κs = tt
+unclocked-requires : tie.Need-unclocked-requires
+unclocked-requires c κs = tt
 
-returns-2 : tie.Need-returns-2
-unfolding fallDataOf
-returns-2 c = simp (c .hold-transmit .ensures, c .before .if1 .taken, ← c .before .before .starved .ensures, c .before .before .before .before .frame .given .1)
+set-hold-requires : tie.Need-set-hold-requires
+set-hold-requires c κs = tt
 
 data-level-requires : tie.Need-data-level-requires
 data-level-requires c κs = tt
 
-drive-sda-requires : tie.Need-drive-sda-requires
-drive-sda-requires c κs = tt
+returns-2 : tie.Need-returns-2
+unfolding fallDataOf holdTransmitOf
+returns-2 c = simp (c .unclocked .ensures, c .before .if2 .taken, c .before .before .before .before .if1 .taken, ← c .before .before .before .before .before .starved .ensures, c .before .before .before .before .before .before .before .frame .given .1)
 
 returns-3 : tie.Need-returns-3
-unfolding fallDataOf
-returns-3 c = simp (c .drive-sda .ensures, ← c .before .data-level .ensures, c .before .before .if1 .left, ← c .before .before .before .starved .ensures, c .before .before .before .before .before .frame .given .1)
+unfolding fallDataOf holdTransmitOf
+returns-3 c = simp (c .set-hold .ensures, c .before .if2 .left, c .before .before .before .before .if1 .taken, ← c .before .before .before .before .before .starved .ensures, c .before .before .before .before .before .before .before .frame .given .1)
+
+returns-4 : tie.Need-returns-4
+unfolding fallDataOf holdTransmitOf
+returns-4 c = simp (c .before .data-level .ensures, c .before .before .if1 .left, ← c .before .before .before .starved .ensures, c .before .before .before .before .before .frame .given .1)
 
 pub fall-data-spec : {M : Type 1} → statement M
-fall-data-spec = tie.close (tie.spec enum-known-frame enum-told returns starved-requires hold-transmit-requires returns-2 data-level-requires drive-sda-requires returns-3)
+fall-data-spec = tie.close (tie.spec enum-known-frame enum-told returns starved-requires unclocked-requires set-hold-requires data-level-requires returns-2 returns-3 returns-4)

@@ -1,3 +1,4 @@
+use Rattle.steps.proofs.Laws.{some-hold}
 use borrow.Author.Needs.{needs}
 use Rattle.steps.proofs.Core.held.Statement.{statement}
 use Rattle.steps.proofs.Core.held.Tie as tie
@@ -5,20 +6,11 @@ use Rattle.steps.proofs.Core.held.Tie as tie
 enum-told : tie.Need-enum-told
 enum-told c = search needs
 
-enum-told-2 : tie.Need-enum-told-2
-enum-told-2 c = search needs
-
-enum-told-3 : tie.Need-enum-told-3
-enum-told-3 c = search needs
-
 returns : tie.Need-returns
-returns c = simp (c .enum-told .given .1)
+returns c = some-hold (c .before .args .self .hold) (c .match .keys2)
 
 returns-2 : tie.Need-returns-2
-returns-2 c = simp (c .enum-told2 .given .1)
-
-returns-3 : tie.Need-returns-3
-returns-3 c = simp (c .enum-told3 .given .1)
+returns-2 c = simp (c .enum-told .given .1)
 
 pub held-spec : {M : Type 1} → statement M
-held-spec = tie.close (tie.spec enum-told enum-told-2 enum-told-3 returns returns-2 returns-3)
+held-spec = tie.close (tie.spec enum-told returns returns-2)

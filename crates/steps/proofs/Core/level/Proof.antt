@@ -1,27 +1,19 @@
-use borrow.Author.Needs.{needs}
+use mathlib.Core.Path.{_∙_, sym}
+use Rattle.steps.proofs.Laws.{ack-shown, data-shown}
 use Rattle.steps.proofs.Core.level.Statement.{statement}
 use Rattle.steps.proofs.Core.level.Tie as tie
 
-enum-told : tie.Need-enum-told
-enum-told c = search needs
+is-data-requires : tie.Need-is-data-requires
+is-data-requires c κs = tt
 
 data-level-requires : tie.Need-data-level-requires
 data-level-requires c κs = tt
 
-enum-told-2 : tie.Need-enum-told-2
-enum-told-2 c = search needs
-
-enum-told-3 : tie.Need-enum-told-3
-enum-told-3 c = search needs
-
 returns : tie.Need-returns
-returns c = simp (c .data-level .ensures, c .before .enum-told .given .1)
+returns c = c .data-level .ensures ∙ sym (data-shown (c .before .before .before .args .f .phase) (c .before .before .before .args .f) (c .before .before .before .args .self) (sym (c .before .before .is-data .ensures) ∙ c .before .if1 .taken))
 
 returns-2 : tie.Need-returns-2
-returns-2 c = simp (c .before .before .enum-told2 .given .1)
-
-returns-3 : tie.Need-returns-3
-returns-3 c = simp (c .before .before .enum-told3 .given .1)
+returns-2 c = sym (ack-shown (c .before .before .before .before .args .f .phase) (c .before .before .before .before .args .f) (c .before .before .before .before .args .self) (sym (c .before .before .before .is-data .ensures) ∙ c .before .before .if1 .left))
 
 pub level-spec : {M : Type 1} → statement M
-level-spec = tie.close (tie.spec enum-told data-level-requires enum-told-2 enum-told-3 returns returns-2 returns-3)
+level-spec = tie.close (tie.spec is-data-requires data-level-requires returns returns-2)

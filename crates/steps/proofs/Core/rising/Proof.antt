@@ -1,4 +1,4 @@
-use Rattle.steps.specs.Shift.{risingOf}
+use Rattle.steps.specs.Shift.{risingOf, risingAckOf}
 use borrow.Author.Needs.{needs}
 use Rattle.steps.proofs.Core.rising.Statement.{statement}
 use Rattle.steps.proofs.Core.rising.Tie as tie
@@ -10,11 +10,11 @@ enum-told : tie.Need-enum-told
 enum-told c = search needs
 
 returns : tie.Need-returns
-unfolding risingOf
+unfolding risingOf risingAckOf
 returns c = simp (c .enum-told .given .1)
 
 returns-2 : tie.Need-returns-2
-unfolding risingOf
+unfolding risingOf risingAckOf
 returns-2 c = simp (c .if1 .taken, c .before .before .before .frame .given .1)
 
 enum-told-2 : tie.Need-enum-told-2
@@ -26,23 +26,29 @@ rising-data-requires c κs = tt
 enum-told-3 : tie.Need-enum-told-3
 enum-told-3 c = search needs
 
-rising-ack-requires : tie.Need-rising-ack-requires
-rising-ack-requires c κs = tt
+complete-frame-requires : tie.Need-complete-frame-requires
+complete-frame-requires c κs = tt
+
+at-requires : tie.Need-at-requires
+at-requires c κs = tt
+
+with-frame-requires : tie.Need-with-frame-requires
+with-frame-requires c κs = tt
 
 enum-told-4 : tie.Need-enum-told-4
 enum-told-4 c = search needs
 
 returns-3 : tie.Need-returns-3
-unfolding risingOf
+unfolding risingOf risingAckOf
 returns-3 c = simp (c .rising-data .ensures, c .before .enum-told2 .given .1, c .before .before .before .if1 .left, c .before .before .before .before .before .before .frame .given .1)
 
 returns-4 : tie.Need-returns-4
-unfolding risingOf
-returns-4 c = simp (c .rising-ack .ensures, c .before .enum-told3 .given .1, c .before .before .before .if1 .left, c .before .before .before .before .before .before .frame .given .1)
+unfolding risingOf risingAckOf
+returns-4 c = simp (c .with-frame .ensures, ← c .before .at .ensures, ← c .before .before .complete-frame .ensures, c .before .before .before .enum-told3 .given .1, c .before .before .before .before .before .if1 .left, c .before .before .before .before .before .before .before .before .frame .given .1)
 
 returns-5 : tie.Need-returns-5
-unfolding risingOf
+unfolding risingOf risingAckOf
 returns-5 c = simp (c .enum-told4 .given .1, c .before .before .if1 .left, c .before .before .before .before .before .frame .given .1)
 
 pub rising-spec : {M : Type 1} → statement M
-rising-spec = tie.close (tie.spec enum-known-frame enum-told returns returns-2 enum-told-2 rising-data-requires enum-told-3 rising-ack-requires enum-told-4 returns-3 returns-4 returns-5)
+rising-spec = tie.close (tie.spec enum-known-frame enum-told returns returns-2 enum-told-2 rising-data-requires enum-told-3 complete-frame-requires at-requires with-frame-requires enum-told-4 returns-3 returns-4 returns-5)

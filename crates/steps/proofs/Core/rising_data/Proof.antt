@@ -2,9 +2,6 @@ use Rattle.steps.specs.Shift.{risingDataOf}
 use Rattle.steps.proofs.Core.rising_data.Statement.{statement}
 use Rattle.steps.proofs.Core.rising_data.Tie as tie
 
-loses-requires : tie.Need-loses-requires
-loses-requires c κs = tt
-
 when-lost-requires : tie.Need-when-lost-requires
 when-lost-requires c κs = tt
 
@@ -14,16 +11,16 @@ sampled-requires c κs = tt
 last-bit-requires : tie.Need-last-bit-requires
 last-bit-requires c κs = tt
 
+returns : tie.Need-returns
+unfolding risingDataOf
+returns c = simp (c .last-bit .ensures, rw (c .before .before .before .sampled .ensures) at (c .before .if1 .taken), c .before .before .before .sampled .ensures, c .before .before .before .before .when-lost .ensures)
+
 with-frame-requires : tie.Need-with-frame-requires
 with-frame-requires c κs = tt
 
-returns : tie.Need-returns
-unfolding risingDataOf
-returns c = simp (c .last-bit .ensures, rw (c .before .before .before .sampled .ensures) at (c .before .if1 .taken), c .before .before .before .sampled .ensures, ← c .before .before .before .before .when-lost .ensures, ← c .before .before .before .before .before .loses .ensures)
-
 returns-2 : tie.Need-returns-2
 unfolding risingDataOf
-returns-2 c = simp (c .with-frame .ensures, rw (c .before .before .before .sampled .ensures) at (c .before .if1 .left), c .before .before .before .sampled .ensures, ← c .before .before .before .before .when-lost .ensures, ← c .before .before .before .before .before .loses .ensures)
+returns-2 c = simp (c .with-frame .ensures, rw (c .before .before .before .sampled .ensures) at (c .before .if1 .left), c .before .before .before .sampled .ensures, c .before .before .before .before .when-lost .ensures)
 
 pub rising-data-spec : {M : Type 1} → statement M
-rising-data-spec = tie.close (tie.spec loses-requires when-lost-requires sampled-requires last-bit-requires with-frame-requires returns returns-2)
+rising-data-spec = tie.close (tie.spec when-lost-requires sampled-requires last-bit-requires returns with-frame-requires returns-2)

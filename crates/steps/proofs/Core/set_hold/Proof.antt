@@ -12,15 +12,12 @@ returns c = simp (c .if1 .taken, ← c .before .synchronous .ensures)
 unclocked-requires : tie.Need-unclocked-requires
 unclocked-requires c κs = tt
 
-drive-scl-requires : tie.Need-drive-scl-requires
-drive-scl-requires c κs = tt
-
 with-hold-requires : tie.Need-with-hold-requires
 with-hold-requires c κs = tt
 
 returns-2 : tie.Need-returns-2
 unfolding setHoldOf
-returns-2 c = simp (c .with-hold .ensures, c .before .drive-scl .ensures, c .before .before .unclocked .ensures, c .before .before .before .if1 .left, ← c .before .before .before .before .synchronous .ensures)
+returns-2 c = simp (c .with-hold .ensures, c .before .unclocked .ensures, c .before .before .before .if1 .left, ← c .before .before .before .before .synchronous .ensures)
 
 pub set-hold-spec : {M : Type 1} → statement M
-set-hold-spec = tie.close (tie.spec synchronous-requires returns unclocked-requires drive-scl-requires with-hold-requires returns-2)
+set-hold-spec = tie.close (tie.spec synchronous-requires returns unclocked-requires with-hold-requires returns-2)

@@ -16,12 +16,9 @@ returns c = simp (c .enum-told .given .1)
 released-level-requires : tie.Need-released-level-requires
 released-level-requires c κs = tt
 
-drive-sda-requires : tie.Need-drive-sda-requires
-drive-sda-requires c κs = tt
-
 returns-2 : tie.Need-returns-2
 unfolding showOf
-returns-2 c = simp (c .drive-sda .ensures, ← c .before .released-level .ensures, c .before .before .before .frame .given .1)
+returns-2 c = simp (c .before .released-level .ensures, c .before .before .before .frame .given .1)
 
 pub show-spec : {M : Type 1} → statement M
-show-spec = tie.close (tie.spec enum-known-frame enum-told returns released-level-requires drive-sda-requires returns-2)
+show-spec = tie.close (tie.spec enum-known-frame enum-told returns released-level-requires returns-2)
