@@ -77,21 +77,20 @@ impl Iic {
 
 impl Stepped {
     // Starts what is due.
-    pub(crate) fn kick(mut self, now: Time, clocks: Clocks) -> Stepped
+    pub(crate) fn kick(self, now: Time, clocks: Clocks) -> Stepped
         ensures { λ r. ⌜ r ≡ andThen self (kickOf now clocks) ⌝ }
     {
-        let mut state = self.state;
-        let starts = self.went_on() & state.core.ready();
-        if starts {
-            if state.core.command_ready() {
-                self = state.begin_condition(now, clocks);
-            } else {
-                state.core = state.core.next_frame();
-                state.core = state.core.load_transmit();
-                self = state.clock_frame(now, clocks);
-            }
+        let starts = self.went_on() & self.state.core.ready();
+        if !starts {
+            return self;
         }
-        self
+        let mut state = self.state;
+        if state.core.command_ready() {
+            return state.begin_condition(now, clocks);
+        }
+        state.core = state.core.next_frame();
+        state.core = state.core.load_transmit();
+        state.clock_frame(now, clocks)
     }
 
     fn show(mut self) -> Stepped

@@ -91,15 +91,15 @@ impl Iic {
 
 impl Stepped {
     // The filter's wait starts where it is wanted.
-    pub(crate) fn schedule_filter(mut self, now: Time, clocks: Clocks) -> Stepped
+    pub(crate) fn schedule_filter(self, now: Time, clocks: Clocks) -> Stepped
         ensures { λ r. ⌜ r ≡ andThen self (scheduleFilterOf now clocks) ⌝ }
     {
         let starts = self.went_on() & self.state.wants_filter();
-        if starts {
-            self = self.state
-                .filter_from(ClockWait::after(now, 1, Tap::system(1), clocks));
+        if !starts {
+            return self;
         }
-        self
+        self.state
+            .filter_from(ClockWait::after(now, 1, Tap::system(1), clocks))
     }
 
     // The clock's wait resumes (true) or pauses (false).

@@ -1,6 +1,6 @@
 // What a core must meet, and whether it asks its host for an interrupt.
 ghost use mathlib.Core.Path.{_≡_};
-ghost use Rattle.steps.specs.Checks.{fellBy, halvesRefusal, interruptBy, interruptWith, progressHolds, rangesHold};
+ghost use Rattle.steps.specs.Checks.{fellBy, halvesRefusal, interruptWith, progressHolds, rangesHold};
 use super::Core;
 use super::EighthFall;
 use super::bits::AL;

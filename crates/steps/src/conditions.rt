@@ -1,6 +1,6 @@
 // Starts and stops: those of the bus, and those that the master makes.
 ghost use mathlib.Core.Path.{_≡_};
-ghost use Rattle.steps.specs.Conditions.{beginAddressOf, begunOf, busEdgeOf, busStartOf, busStopOf, clockedOf, conditionHigh, firstCondition, isStartHold, loseStartOf, raisedOf, releaseSdaOf, stopNoted, stopReleased};
+ghost use Rattle.steps.specs.Conditions.{begunOf, busEdgeOf, busStartOf, busStopOf, clockedOf, conditionHigh, firstCondition, isStartHold, raisedOf};
 use super::Command;
 use super::Condition;
 use super::Core;

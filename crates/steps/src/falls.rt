@@ -1,6 +1,6 @@
 // What a falling clock brings.
 ghost use mathlib.Core.Path.{_≡_};
-ghost use Rattle.steps.specs.Falls.{acknowledgeOf, endFrame, endFrameOf, fallDataOf, fallIdleOf, fallTakenOf, followOf, holdReceiveOf, holdTransmitOf, insertsWait};
+ghost use Rattle.steps.specs.Falls.{acknowledgeOf, endFrameOf, fallDataOf, fallIdleOf, fallTakenOf, followOf, holdReceiveOf, insertsWait};
 use super::Core;
 use super::EighthFall;
 use super::Hold;

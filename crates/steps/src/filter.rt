@@ -1,7 +1,6 @@
 // The noise filter, and the levels as given.
 ghost use mathlib.Core.Path.{_≡_};
 ghost use Rattle.steps.specs.Filter.{filterPassOf, observes, passed, unsettled};
-ghost use Rattle.steps.specs.Setters.{setRaw};
 use super::Core;
 use bus::Levels;
 

@@ -1,7 +1,6 @@
 // The registers as the host reads them.
 ghost use mathlib.Core.Path.{_≡_};
 ghost use Rattle.steps.specs.Access.{continuedOf, fellNow, peekAt, registerAt, shownControl, takenOf};
-ghost use Rattle.steps.specs.Setters.{setSeen};
 use super::Core;
 use super::EighthFall;
 use super::Register;

@@ -1,6 +1,6 @@
 // What is due next: a condition, a frame, a clock, and the level that it shows.
 ghost use mathlib.Core.Path.{_≡_};
-ghost use Rattle.steps.specs.Ready.{clockDue, commandReady, frameDue, levelAt, lowHalfOf, nextFrameOf, ready, releasedLevel, showOf};
+ghost use Rattle.steps.specs.Ready.{clockDue, commandReady, levelAt, lowHalfOf, nextFrameOf, ready, releasedLevel, showOf};
 use super::Core;
 use super::bits::ACKBT;
 use super::bits::FS;

@@ -1,6 +1,6 @@
 // The shifter, from a frame's beginning to its completion.
 ghost use mathlib.Core.Path.{_≡_};
-ghost use Rattle.steps.specs.Shift.{acknowledgedOf, addressedOf, arbitrationLostOf, beginFrameOf, canLoad, completeFrameOf, drainedOf, endSynchronousOf, finishedOf, fresh, lastBitOf, loadTransmitOf, loses, matchedOf, overrunOf, receivedOf, receives, risingAckOf, risingDataOf, risingOf, selectOf, setHoldOf, storedOf, whenLostOf};
+ghost use Rattle.steps.specs.Shift.{acknowledgedOf, addressedOf, arbitrationLostOf, beginFrameOf, completeFrameOf, endSynchronousOf, finishedOf, fresh, lastBitOf, loadTransmitOf, receivedOf, receives, risingDataOf, risingOf, selectOf, setHoldOf, whenLostOf};
 use super::Command;
 use super::Condition;
 use super::Core;

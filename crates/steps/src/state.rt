@@ -1,7 +1,7 @@
 // The default core, its parts set anew, and the tests on it.
 ghost use mathlib.Core.Path.{_≡_};
 ghost use Rattle.steps.specs.Setters.{setClockWait, setCommand, setCondition, setEighthFall, setFrame, setHold, setMonitorWait};
-ghost use Rattle.steps.specs.State.{awake, commanded, conditioned, defaultCore, defaultFlags, defaultRegisters, driveScl, driveSda, enabled, framed, held, isTransmitHold, master, raise, stopCoreOf, synchronous, transmits, unclocked};
+ghost use Rattle.steps.specs.State.{awake, commanded, conditioned, defaultCore, defaultFlags, defaultRegisters, enabled, framed, held, isTransmitHold, master, raise, stopCoreOf, synchronous, transmits, unclocked};
 use super::Command;
 use super::Condition;
 use super::Core;

@@ -1,8 +1,6 @@
 // The registers as the host writes them.
 ghost use mathlib.Core.Path.{_≡_};
 ghost use Rattle.steps.specs.Access.{enterResetOf, giveDataOf, pullSdaOf, redirected, stopReceiveOf, takeControlOf, takesCommand, writeModeOf, writePlain};
-ghost use Rattle.steps.specs.Setters.{setReset};
-ghost use mathlib.Core.Bool.{false};
 use super::Core;
 use super::Register;
 use super::bits::ACKBR;

@@ -1,5 +1,4 @@
 use Rattle.iic.proofs.Laws.{unrefused}
-use mathlib.Core.Path.{refl}
 use borrow.Author.Needs.{needs}
 use Rattle.iic.proofs.Stepped.unfired.Statement.{statement}
 use Rattle.iic.proofs.Stepped.unfired.Tie as tie
