@@ -47,11 +47,12 @@ firing due.Now s o = o
 firing due.NotNow s o = fine s
 firing (due.Refused n) s o = refused n s
 
--- the same after a step: nothing is due after a refusal
+-- whether a wait is due after a step: nothing is after a refusal
 abbrev pub dueAfter : Ended → Due → Due
 dueAfter ended.Finished d = d
 dueAfter (ended.Refused n) d = due.NotNow
 
+-- what follows a step where a wait isn't due
 abbrev pub unfired : Due → Stepped → Stepped
 unfired due.Now o = o
 unfired due.NotNow o = o

@@ -65,13 +65,10 @@ impl Iic {
         ensures { λ r. ⌜ r ≡ releaseHoldOf now clocks self ⌝ }
     {
         self.core = self.core.with_hold(Hold::NoHold);
-        let mut next = self.fine();
         if self.core.master() {
-            next = self.start_clock(now, clocks);
-        } else {
-            next = self.start_setup(now, clocks);
+            return self.start_clock(now, clocks).show();
         }
-        next.show()
+        self.start_setup(now, clocks).show()
     }
 }
 

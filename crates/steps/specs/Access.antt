@@ -126,7 +126,7 @@ writeStatusOf value s = setStatus (statusLeft value s) (setSeen (bitAnd (s .regi
 unfoldable pub writeAddressOf : ℕ → Core → Core
 writeAddressOf value s = setAddress value (setBusy (s .flags .busy && not (has value FS)) s)
 
--- the registers whose write alone starts no wait; the others stay as they are
+-- of `write` in iic.rs what a write of ICMR, ICIER, ICSR or SAR sets; nothing for the other registers
 abbrev pub writePlain : Register → ℕ → Core → Core
 writePlain ICCR1 value s = s
 writePlain ICCR2 value s = s
