@@ -21,8 +21,7 @@ use Rattle.iic.specs.declared.Ended.the-variants.{Finished, Refused}
 use Rattle.iic.specs.declared.Stepped.{Stepped}
 use Rattle.frames.specs.declared.Framing.{Framing}
 use Rattle.frames.specs.declared.Framing.the-variants.{NoFrame, InFrame}
-use Rattle.waits.specs.declared.NewHalf.{NewHalf}
-use Rattle.waits.specs.declared.NewHalf.the-variants as half
+use Rattle.clocks.specs.declared.wait.ClockWait.{ClockWait}
 use Rattle.waits.specs.declared.MaybeWait.{MaybeWait}
 use Rattle.waits.specs.declared.MaybeWait.the-variants.{NoWait, Waiting}
 use Rattle.waits.specs.declared.MaybeHalf.{MaybeHalf}
@@ -37,29 +36,21 @@ use Rattle.steps.specs.Bits.{TDRE, NACKF, BC, BCWP, IICRST, SDAOP}
 use Rattle.iic.specs.Calls.{guardOf, peekOf, takePinsOf, keepStretchedOf, turnWaitsOf, turnGateOf, visitOf, readOf, writeOf, inputPinsOf, setGateOf, advanceOf}
 use Rattle.steps.specs.Filter.{observes}
 use Rattle.iic.specs.Clocking.{fireFilterOf, fireSetupOf, fireMonitorOf, fireClockOf}
-use Rattle.steps.specs.Setters.{setFrame, setSeen, setRaw, setGate, setReset, setMonitorWait}
+use Rattle.steps.specs.Setters.{setFrame, setSeen, setRaw, setGate, setReset, setClockWait, setMonitorWait}
 use Rattle.iic.specs.State.{setFilterWait, setSetupWait, stopShifterOf, onCore}
 use Rattle.steps.specs.State.{levels, enabled, awake, transmits, conditioned, stopCoreOf}
-use Rattle.iic.specs.Waiting.{wantsFilter, scheduleFilterOf, monitorFrom, filterFrom, setupFrom, turnClockIn, turnClockOf, turnMonitorIn, turnMonitorOf, turnFilterIn, turnFilterOf, turnSetupIn, turnSetupOf}
+use Rattle.iic.specs.Waiting.{wantsFilter, scheduleFilterOf, filterFrom, halfFrom, turnClockOf, turnFilterOf, turnHalfIn, turnMonitorOf, turnSetupOf, turnWaitIn, waitFrom}
 use Rattle.waits.specs.Ends.{turnHalf, turnWait}
 use Rattle.hosts.specs.Calls.{Call, peek, read, write, inputPins, deadline, advance, pins, interrupt, interruptWithEnable, validate, ofEnd, ofByte, ofTruth, isRefusal, outcomeOf, Host, lifts, after}
 use Rattle.hosts.specs.Invariant.{settled, Good}
-use Rattle.hosts.specs.Kicked.{leavesAt, Leaves, Settled, Settles, then-leaves, leaves-more, clock-leaves, unready, kick-settles, then-kick}
+use Rattle.hosts.specs.Kicked.{leavesAt, Leaves, Settled, Settles, then-leaves, leaves-more, half-leaves, unready, kick-settles, then-kick}
 use Rattle.hosts.specs.Truths.{or-left, or-right, has-kept}
 
 -- ## Waits
 
-monitor-leaves : (P : Iic → Type 0) (w : NewHalf) (s : Iic) → ((m : MaybeHalf) → P (onCore (setMonitorWait m) s)) → Leaves P (monitorFrom w s)
-monitor-leaves P (half.Made v) s h = h (Half v)
-monitor-leaves P (half.Refused n) s h = tt
-
-filter-leaves : (P : Iic → Type 0) (w : NewWait) (s : Iic) → ((m : MaybeWait) → P (setFilterWait m s)) → Leaves P (filterFrom w s)
-filter-leaves P (wait.Made v) s h = h (Waiting v)
-filter-leaves P (wait.Refused n) s h = tt
-
-setup-leaves : (P : Iic → Type 0) (w : NewWait) (s : Iic) → ((m : MaybeWait) → P (setSetupWait m s)) → Leaves P (setupFrom w s)
-setup-leaves P (wait.Made v) s h = h (Waiting v)
-setup-leaves P (wait.Refused n) s h = tt
+wait-leaves : (P : Iic → Type 0) (set : MaybeWait → Iic → Iic) (w : NewWait) (s : Iic) → ((v : ClockWait) → P (set (Waiting v) s)) → Leaves P (waitFrom set w s)
+wait-leaves P set (wait.Made v) s h = h v
+wait-leaves P set (wait.Refused n) s h = tt
 
 -- ## Off, gated off or in reset
 
@@ -85,7 +76,7 @@ in-reset s e = unready s (rw e (rw (and-false (awake s))))
 schedule-at : (now : Time) (k : Clocks) (s : Iic) (b : Bool) → Settled s
     → Settles (cond b (filterFrom (waitAfter now 1 (systemTap 1) k) s) (fine s))
 unfolding settled
-schedule-at now k s true h = filter-leaves Settled (waitAfter now 1 (systemTap 1) k) s (λ m. h)
+schedule-at now k s true h = wait-leaves Settled setFilterWait (waitAfter now 1 (systemTap 1) k) s (λ m. h)
 schedule-at now k s false h = h
 
 schedule-settles : (now : Time) (k : Clocks) (s : Iic) → Settled s → Settles (scheduleFilterOf now k s)
@@ -103,28 +94,23 @@ pins-settles given now k s false e h = rw e (schedule-settles now k (onCore (set
 abbrev Ungated : Iic → Type 0
 Ungated s = s .core .flags .gate ≡ false
 
-clock-off : (now : Time) (k : Clocks) (w : MaybeHalf) (s : Iic) → Ungated s → Leaves Ungated (turnClockIn false now k w s)
-clock-off now k NoHalf s h = h
-clock-off now k (Half w) s h = clock-leaves Ungated (turnHalf false now k w) s (λ v. h)
+half-off : (set : MaybeHalf → Iic → Iic) → ((x : MaybeHalf) (s : Iic) → Ungated s → Ungated (set x s)) → (now : Time) (k : Clocks) (w : MaybeHalf) (s : Iic)
+    → Ungated s → Leaves Ungated (turnHalfIn (halfFrom set) false now k w s)
+half-off set keeps now k NoHalf s h = h
+half-off set keeps now k (Half w) s h = half-leaves Ungated set (turnHalf false now k w) s (λ v. keeps (Half v) s h)
 
-monitor-off : (now : Time) (k : Clocks) (w : MaybeHalf) (s : Iic) → Ungated s → Leaves Ungated (turnMonitorIn false now k w s)
-monitor-off now k NoHalf s h = h
-monitor-off now k (Half w) s h = monitor-leaves Ungated (turnHalf false now k w) s (λ v. h)
-
-filter-off : (now : Time) (k : Clocks) (w : MaybeWait) (s : Iic) → Ungated s → Leaves Ungated (turnFilterIn false now k w s)
-filter-off now k NoWait s h = h
-filter-off now k (Waiting w) s h = filter-leaves Ungated (turnWait false now k w) s (λ v. h)
-
-setup-off : (now : Time) (k : Clocks) (w : MaybeWait) (s : Iic) → Ungated s → Leaves Ungated (turnSetupIn false now k w s)
-setup-off now k NoWait s h = h
-setup-off now k (Waiting w) s h = setup-leaves Ungated (turnWait false now k w) s (λ v. h)
+wait-off : (set : MaybeWait → Iic → Iic) → ((x : MaybeWait) (s : Iic) → Ungated s → Ungated (set x s)) → (now : Time) (k : Clocks) (w : MaybeWait) (s : Iic)
+    → Ungated s → Leaves Ungated (turnWaitIn (waitFrom set) false now k w s)
+wait-off set keeps now k NoWait s h = h
+wait-off set keeps now k (Waiting w) s h = wait-leaves Ungated set (turnWait false now k w) s (λ v. keeps (Waiting v) s h)
 
 -- `turnWaitsOf` by its parts, the last first
 off-1 : (now : Time) (k : Clocks) (s : Iic) → Ungated s → Leaves Ungated (andThen (turnClockOf false now k s) (turnMonitorOf false now k))
 unfolding turnClockOf turnMonitorOf
 off-1 now k s h =
     then-leaves Ungated Ungated (turnClockOf false now k s) (turnMonitorOf false now k)
-    (clock-off now k (s .core .«clock_wait») s h) (λ t g. monitor-off now k (t .core .«monitor_wait») t g)
+    (half-off (λ x. onCore (setClockWait x)) (λ x t g. g) now k (s .core .«clock_wait») s h)
+    (λ t g. half-off (λ x. onCore (setMonitorWait x)) (λ x u f. f) now k (t .core .«monitor_wait») t g)
 
 waits-off : (now : Time) (k : Clocks) (s : Iic) → Ungated s → Leaves Ungated (turnWaitsOf false now k s)
 unfolding turnWaitsOf keepStretchedOf turnFilterOf turnSetupOf
@@ -135,8 +121,8 @@ waits-off now k s h =
     then-leaves Ungated Ungated o3 (turnSetupOf false now k)
     (then-leaves Ungated Ungated o2 (turnFilterOf false now k)
     (then-leaves Ungated Ungated o1 (keepStretchedOf false now k) (off-1 now k s h) (λ t g. g))
-    (λ t g. filter-off now k (t .«filter_wait») t g))
-    (λ t g. setup-off now k (t .«setup_wait») t g)
+    (λ t g. wait-off setFilterWait (λ x u f. f) now k (t .«filter_wait») t g))
+    (λ t g. wait-off setSetupWait (λ x u f. f) now k (t .«setup_wait») t g)
 
 gate-settles : (gate : Bool) (now : Time) (k : Clocks) (s : Iic) (b : Bool) → Bool·beq (s .core .flags .gate) gate ≡ b → Settled s
     → Settles (turnGateOf gate now k s)

@@ -20,6 +20,7 @@ use Rattle.waits.specs.declared.HalfWait.{HalfWait}
 use Rattle.waits.specs.declared.NewHalf.{NewHalf}
 use Rattle.waits.specs.declared.NewHalf.the-variants as half
 use Rattle.waits.specs.declared.MaybeHalf.the-variants.{Half}
+use Rattle.waits.specs.declared.MaybeHalf.{MaybeHalf}
 use Rattle.steps.specs.Bits.{TDRE}
 use Rattle.iic.specs.Answers.{fine, goOn, andThen}
 use Rattle.waits.specs.Half.{halfAfter}
@@ -32,7 +33,7 @@ use Rattle.steps.specs.Shift.{canLoad, loadIn, loadTransmitOf, beginFrameOf, se
 use Rattle.steps.specs.State.{awake, master, synchronous, framed, commanded, conditioned, held, isCondition}
 use Rattle.waits.specs.Rates.{periodOf}
 use Rattle.iic.specs.State.{setCore, onCore}
-use Rattle.iic.specs.Waiting.{clockFrom, startClockOf}
+use Rattle.iic.specs.Waiting.{halfFrom, startClockOf}
 use Rattle.hosts.specs.Invariant.{loadsIn, loads, restsIn, rests, atRest, settled}
 use Rattle.hosts.specs.Truths.{and-left, and-right, not-so}
 
@@ -125,9 +126,9 @@ leaves-more P Q o h f = go (o .ended) h
     go Finished h = f (o .state) h
     go (Refused n) h = tt
 
-pub clock-leaves : (P : Iic → Type 0) (w : NewHalf) (s : Iic) → ((v : HalfWait) → P (onCore (setClockWait (Half v)) s)) → Leaves P (clockFrom w s)
-clock-leaves P (half.Made v) s h = h v
-clock-leaves P (half.Refused n) s h = tt
+pub half-leaves : (P : Iic → Type 0) (set : MaybeHalf → Iic → Iic) (w : NewHalf) (s : Iic) → ((v : HalfWait) → P (set (Half v) s)) → Leaves P (halfFrom set w s)
+half-leaves P set (half.Made v) s h = h v
+half-leaves P set (half.Refused n) s h = tt
 
 -- ## Every kick that isn't refused leaves a settled state
 
@@ -146,7 +147,7 @@ command-settles : (now : Time) (k : Clocks) (c : Command) (s : Iic) → commandR
 unfolding startClockOf begunOf
 command-settles now k NoCommand s h e = absurd (false≢true (rw e at h))
 command-settles now k (Commanded start) s h e =
-    clock-leaves Settled (halfAfter now (periodOf (s .core .registers .control)) k) (onCore (begunOf start) s) (λ v. in-condition _ (begun start))
+    half-leaves Settled (λ x. onCore (setClockWait x)) (halfAfter now (periodOf (s .core .registers .control)) k) (onCore (begunOf start) s) (λ v. in-condition _ (begun start))
 
 -- what holds of a state that a kick has given its frame
 record Framed (s : Core) : Type 0 where
@@ -214,7 +215,7 @@ launch-settles now k f s true w r l p q = rw p (framed-settled _ r l (rw p (or-t
 launch-settles now k f s false true r l p q = rw (p, q) (hold-settles (s .core) f (synchronous (s .core)) refl r l q)
 launch-settles now k f s false false r l p q =
     let c : Core = s .core in
-    rw (p, q) (clock-leaves Settled (halfAfter now (periodOf (c .registers .control)) k) (setCore (lowHalfOf (levelAt (f .phase) f (setFrame (InFrame f) c)) (setFrame (InFrame f) c)) s) (λ v.
+    rw (p, q) (half-leaves Settled (λ x. onCore (setClockWait x)) (halfAfter now (periodOf (c .registers .control)) k) (setCore (lowHalfOf (levelAt (f .phase) f (setFrame (InFrame f) c)) (setFrame (InFrame f) c)) s) (λ v.
     framed-settled _ record { no-command = r .no-command; no-frame = refl } l
     (rw (beside-wait (master c) (not (held c)) (not (c .flags .«synchronized_hold»))))))
 

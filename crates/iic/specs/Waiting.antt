@@ -25,21 +25,25 @@ use mathlib.Core.Bool.{Bool, _&&_, cond, not}
 
 -- ## Starting: a wait that was made is the state's, a refused one leaves the state at that point
 
+abbrev pub halfFrom : (MaybeHalf → Iic → Iic) → NewHalf → Iic → Stepped
+halfFrom set (half.Made w) s = fine (set (Half w) s)
+halfFrom set (half.Refused n) s = refused n s
+
+abbrev pub waitFrom : (MaybeWait → Iic → Iic) → NewWait → Iic → Stepped
+waitFrom set (wait.Made w) s = fine (set (Waiting w) s)
+waitFrom set (wait.Refused n) s = refused n s
+
 abbrev pub clockFrom : NewHalf → Iic → Stepped
-clockFrom (half.Made w) s = fine (onCore (setClockWait (Half w)) s)
-clockFrom (half.Refused n) s = refused n s
+clockFrom w s = halfFrom (λ x. onCore (setClockWait x)) w s
 
 abbrev pub monitorFrom : NewHalf → Iic → Stepped
-monitorFrom (half.Made w) s = fine (onCore (setMonitorWait (Half w)) s)
-monitorFrom (half.Refused n) s = refused n s
+monitorFrom w s = halfFrom (λ x. onCore (setMonitorWait x)) w s
 
 abbrev pub filterFrom : NewWait → Iic → Stepped
-filterFrom (wait.Made w) s = fine (setFilterWait (Waiting w) s)
-filterFrom (wait.Refused n) s = refused n s
+filterFrom w s = waitFrom setFilterWait w s
 
 abbrev pub setupFrom : NewWait → Iic → Stepped
-setupFrom (wait.Made w) s = fine (setSetupWait (Waiting w) s)
-setupFrom (wait.Refused n) s = refused n s
+setupFrom w s = waitFrom setSetupWait w s
 
 -- half a clock from now on (iic.rs, `period`)
 unfoldable pub startClockOf : Time → Clocks → Iic → Stepped
@@ -62,30 +66,22 @@ scheduleFilterOf now k s = cond (wantsFilter s) (filterFrom (waitAfter now 1 (sy
 
 -- ## Pausing (the gate goes off: false) and resuming (on: true)
 
-abbrev pub turnClockIn : Bool → Time → Clocks → MaybeHalf → Iic → Stepped
-turnClockIn gate now k NoHalf s = fine s
-turnClockIn gate now k (Half w) s = clockFrom (turnHalf gate now k w) s
+abbrev pub turnHalfIn : (NewHalf → Iic → Stepped) → Bool → Time → Clocks → MaybeHalf → Iic → Stepped
+turnHalfIn from gate now k NoHalf s = fine s
+turnHalfIn from gate now k (Half w) s = from (turnHalf gate now k w) s
+
+abbrev pub turnWaitIn : (NewWait → Iic → Stepped) → Bool → Time → Clocks → MaybeWait → Iic → Stepped
+turnWaitIn from gate now k NoWait s = fine s
+turnWaitIn from gate now k (Waiting w) s = from (turnWait gate now k w) s
 
 unfoldable pub turnClockOf : Bool → Time → Clocks → Iic → Stepped
-turnClockOf gate now k s = turnClockIn gate now k (s .core .«clock_wait») s
-
-abbrev pub turnMonitorIn : Bool → Time → Clocks → MaybeHalf → Iic → Stepped
-turnMonitorIn gate now k NoHalf s = fine s
-turnMonitorIn gate now k (Half w) s = monitorFrom (turnHalf gate now k w) s
+turnClockOf gate now k s = turnHalfIn clockFrom gate now k (s .core .«clock_wait») s
 
 unfoldable pub turnMonitorOf : Bool → Time → Clocks → Iic → Stepped
-turnMonitorOf gate now k s = turnMonitorIn gate now k (s .core .«monitor_wait») s
-
-abbrev pub turnFilterIn : Bool → Time → Clocks → MaybeWait → Iic → Stepped
-turnFilterIn gate now k NoWait s = fine s
-turnFilterIn gate now k (Waiting w) s = filterFrom (turnWait gate now k w) s
+turnMonitorOf gate now k s = turnHalfIn monitorFrom gate now k (s .core .«monitor_wait») s
 
 unfoldable pub turnFilterOf : Bool → Time → Clocks → Iic → Stepped
-turnFilterOf gate now k s = turnFilterIn gate now k (s .«filter_wait») s
-
-abbrev pub turnSetupIn : Bool → Time → Clocks → MaybeWait → Iic → Stepped
-turnSetupIn gate now k NoWait s = fine s
-turnSetupIn gate now k (Waiting w) s = setupFrom (turnWait gate now k w) s
+turnFilterOf gate now k s = turnWaitIn filterFrom gate now k (s .«filter_wait») s
 
 unfoldable pub turnSetupOf : Bool → Time → Clocks → Iic → Stepped
-turnSetupOf gate now k s = turnSetupIn gate now k (s .«setup_wait») s
+turnSetupOf gate now k s = turnWaitIn setupFrom gate now k (s .«setup_wait») s
