@@ -1,5 +1,5 @@
--- Definitions: masks of a byte, as iic.rs tests and sets flags (`x & M != 0`, `x |= M`).
-use Prim.Native.Nat.{ℕ}
+-- Definitions: masks of a byte, as iic.rs tests, sets and clears flags (`x & M != 0`, `x |= M`, `x &= !M`).
+use Prim.Native.Nat.{ℕ, _-_}
 use mathlib.Core.Bool.{Bool, not, cond}
 use lib.Dec.{eqb}
 use lib.Bits.{bitAnd}
@@ -11,3 +11,7 @@ has x m = not (eqb (bitAnd x m) 0)
 -- the mask m where b holds, else nothing
 abbrev pub flag : Bool → ℕ → ℕ
 flag b m = cond b m 0
+
+-- x without the bits of the mask m
+abbrev pub without : ℕ → ℕ → ℕ
+without x m = bitAnd x (0xff - m)

@@ -1,4 +1,4 @@
--- Definitions: UM10204, the I2C-bus specification, on pairs of levels and on bytes. Each but the first names its section.
+-- Definitions: UM10204, the I2C-bus specification, on pairs of levels and on bytes. Each but the first two names its section.
 use Prim.Native.Nat.{ℕ, _*_, _%_}
 use mathlib.Core.Bool.{Bool, not, _&&_, Bool·beq}
 use lib.Dec.{eqb}
@@ -6,7 +6,11 @@ use lib.Bits.{bitOr}
 use Rattle.bus.specs.declared.Levels.{Levels}
 use Rattle.bus.specs.Bits.{has, flag}
 
--- the two pairs are the same (iic.rs, `input_pins`: `self.raw == [scl, sda]`)
+-- a pair of levels
+abbrev pub levels : Bool → Bool → Levels
+levels c d = record { scl = c; sda = d }
+
+-- the two pairs are the same (iic.rs 437, `self.raw == [scl, sda]`)
 abbrev pub sameLevels : Levels → Levels → Bool
 sameLevels a b = Bool·beq (a .scl) (b .scl) && Bool·beq (a .sda) (b .sda)
 

@@ -1,15 +1,16 @@
 // A frame: from its first bit to past the ninth clock.
 ghost use mathlib.Core.Path.{_≡_};
 ghost use Prim.Native.Nat.{_-_};
-ghost use Rattle.frames.specs.Parts.{phased, filled, turned, yielded, sampled, marked, recounted, starved, dataLevel, bitsOf, redirectFrame, redirectIn, yieldIn, markIn, recountIn, shownCount, isDoneIn, progressIn, isData, isDone};
+ghost use Rattle.frames.specs.Parts.{phased, filled, directed, yielded, sampled, marked, recounted, starved, dataLevel, bitsOf, redirectFrame, redirectIn, yieldIn, markIn, recountIn, shownCount, isDoneIn, progressIn, isData, isDone};
 use super::Frame;
 use super::Framing;
 use super::Phase;
 
 // Eight bits for an address or a count of 0.
-pub fn bits_of(whole: bool, count: u8) -> u8
-    ensures { λ r. ⌜ r ≡ bitsOf whole count ⌝ }
+pub fn bits_of(address: bool, count: u8) -> u8
+    ensures { λ r. ⌜ r ≡ bitsOf address count ⌝ }
 {
+    let whole = address | (count == 0);
     if whole { 8 } else { count }
 }
 
@@ -48,9 +49,11 @@ impl Frame {
         Frame { phase, ..self }
     }
 
-    pub fn turned(mut self, sends: bool) -> Frame
-        ensures { λ r. ⌜ r ≡ turned sends self ⌝ }
+    // The direction that ICCR1 has now.
+    pub fn directed(mut self, transmit: bool, master: bool) -> Frame
+        ensures { λ r. ⌜ r ≡ directed transmit master self ⌝ }
     {
+        let sends = transmit & (master | !self.address);
         self.transmit = sends;
         self.loaded = self.loaded | !sends;
         self
@@ -64,7 +67,7 @@ impl Frame {
         self
     }
 
-    pub fn yielded(mut self) -> Frame
+    pub(crate) fn yielded(mut self) -> Frame
         ensures { λ r. ⌜ r ≡ yielded self ⌝ }
     {
         self.transmit = false;
@@ -96,27 +99,25 @@ impl Frame {
         !self.transmit | bus::first_bit(self.shift)
     }
 
-    pub fn marked(mut self, last: bool) -> Frame
+    pub(crate) fn marked(mut self, last: bool) -> Frame
         ensures { λ r. ⌜ r ≡ marked last self ⌝ }
     {
         self.last = last;
         self
     }
 
-    // The direction that ICCR1 has now.
-    pub fn redirected(self, transmit: bool, master: bool, last: bool) -> Frame
+    // MST or TRS was written.
+    pub(crate) fn redirected(self, transmit: bool, master: bool, last: bool) -> Frame
         ensures { λ r. ⌜ r ≡ redirectFrame transmit master last self ⌝ }
     {
-        let sends = transmit & (master | !self.address);
         let last = !transmit & last;
-        self.turned(sends).marked(last)
+        self.directed(transmit, master).marked(last)
     }
 
-    pub fn recounted(mut self, count: u8) -> Frame
+    pub(crate) fn recounted(mut self, count: u8) -> Frame
         ensures { λ r. ⌜ r ≡ recounted count self ⌝ }
     {
-        let whole = count == 0;
-        self.remaining = bits_of(whole, count);
+        self.remaining = bits_of(false, count);
         self
     }
 }

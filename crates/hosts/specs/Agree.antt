@@ -7,7 +7,7 @@ use mathlib.Core.Path.{_≡_, refl, sym, _∙_, ap, ap₂, subst}
 use lib.Dec.{eqb}
 use lib.ListN.{take}
 use Rattle.bus.specs.declared.Levels.{Levels}
-use Rattle.bus.specs.Bus.{sameLevels}
+use Rattle.bus.specs.Bus.{sameLevels, levels}
 use Rattle.time.specs.declared.Time.{Time}
 use Rattle.clocks.specs.declared.Clocks.{Clocks}
 use Rattle.iic.specs.declared.Iic.{Iic}
@@ -28,7 +28,7 @@ use Rattle.iic.specs.Clocking.{firing, filterFiresOf, stretchOf, clockStepOf, f
 use Rattle.iic.specs.Kick.{kickOf}
 use Rattle.steps.specs.Setters.{setClockWait, setMonitorWait}
 use Rattle.iic.specs.State.{setSetupWait, onCore, defaultIic}
-use Rattle.steps.specs.State.{defaultCore, levels, awake, driveScl}
+use Rattle.steps.specs.State.{defaultCore, awake, driveScl}
 use Rattle.waits.specs.Ends.{waitEnd, halfEnd, dueOf}
 use Rattle.hosts.specs.Calls.{Call, peek, read, write, inputPins, setGate, deadline, advance, pins, interrupt, interruptWithEnable, validate, Made, callOf, isRefusal, outcomeOf, Host, start, after, afterAll, hostWith, isNow, anyDue, idleRead, idle}
 use Rattle.hosts.specs.Demand3.{Left, played, left, leftOf, calls, IsKth, before, anyRefused, TwoHostsAgree}

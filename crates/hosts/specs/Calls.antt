@@ -4,7 +4,7 @@ use mathlib.Core.Bool.{Bool, true, false, not, _&&_, _||_, cond, Bool·beq}
 use mathlib.Core.List.{List, [], _∷_}
 use lib.Dec.{eqb}
 use Rattle.bus.specs.declared.Levels.{Levels}
-use Rattle.bus.specs.Bus.{sameLevels}
+use Rattle.bus.specs.Bus.{sameLevels, levels}
 use Rattle.time.specs.declared.Time.{Time}
 use Rattle.clocks.specs.declared.Clocks.{Clocks}
 use Rattle.clocks.specs.declared.Truth.{Truth}
@@ -25,7 +25,7 @@ use Rattle.steps.specs.declared.Register.the-variants.{ICCR1, ICCR2, ICMR, ICIE
 use Rattle.steps.specs.Access.{registerAt}
 use Rattle.iic.specs.Calls.{peekOf, readOf, writeOf, inputPinsOf, setGateOf, deadlineOf, advanceOf, pinsOf, interruptWithEnableOf, validateOf}
 use Rattle.iic.specs.State.{defaultIic}
-use Rattle.steps.specs.State.{levels, framed}
+use Rattle.steps.specs.State.{framed}
 use Rattle.waits.specs.Ends.{waitEnd, halfEnd, dueOf}
 
 -- ## Calls

@@ -51,7 +51,8 @@ use Rattle.iic.specs.Answers.{fine, andThen, truthOf}
 use Rattle.waits.specs.Half.{halfAfter, halfWait}
 use Rattle.iic.specs.Kick.{kickOf}
 use Rattle.steps.specs.Setters.{setGate as gated, setControl, setAddress, setFrame, setDrive, setRaw, setReceiveEnabled, setClockWait}
-use Rattle.steps.specs.State.{levels, defaultCore}
+use Rattle.bus.specs.Bus.{levels}
+use Rattle.steps.specs.State.{defaultCore}
 use Rattle.iic.specs.State.{setCore, setFilterWait, onCore, defaultIic}
 use Rattle.iic.specs.Waiting.{clockFrom, filterFrom}
 use Rattle.hosts.specs.Calls as Hosts
@@ -143,7 +144,7 @@ clock-rows :
     -- the filter's wait is due at second 2 alone
     × (calls (leftOf ticking (made (third ++ (inputPins true false (at 0) ∷ advance (at 1) ∷ advance (at 3) ∷ advance (at 2) ∷ []))))
     ≡ third ++ (inputPins true false (at 0) ∷ advance (at 2) ∷ []))
-unfolding Time.midway Time.momentOf Time.sameTime Clock.afterOf Clock.edgeOf Clock.zeroIn Clocks.availableOf Clocks.fedBy Clocks.hasZero Clocks.routedEdge Clocks.sourceOf Clocks.tapEdge Domain.domainHalfEdge Domain.oddEdge Halves.halfEdge Counts.fits Tap.routeOf Tap.routeS Tap.routeW Tap.stageBelow Tap.stageOf Wait.dated Wait.edgeDeadline Wait.waitDeadline Registers.continuedOf Registers.controlSet Registers.enterResetOf Registers.giveDataOf Registers.peekAt Registers.pullSdaOf Access.readAt Access.readDataOf Parts.redirectFrame Registers.redirected Registers.registerAt Access.resumedOf Access.sendOnOf Registers.stopReceiveOf Registers.takeControlOf Registers.takenOf Registers.writeAddressOf Access.writeAt Access.writeCommandOf Access.writeControlOf Access.writeDataOf Registers.writeEnableOf Registers.writeModeOf Access.writeResetOf Registers.writeStatusOf Iic.advanceOf Iic.guardOf Iic.inputPinsOf Iic.keepStretchedOf Iic.peekOf Iic.readOf Iic.setGateOf Iic.takePinsOf Iic.turnGateOf Iic.turnWaitsOf Iic.visitOf Iic.writeOf Clocking.fireClockOf Clocking.fireFilterOf Clocking.fireMonitorOf Clocking.fireSetupOf Half.halfDeadline Kick.clockFrameOf Kick.kickOf Kick.launchOf Ready.lowHalfOf Ready.nextFrameOf Shift.beginFrameOf Shift.loadTransmitOf Shift.setHoldOf State.defaultIic Core.defaultCore State.stopShifterOf Core.stopCoreOf Ends.dueOf Ends.halfEnd Rates.periodOf Rates.rate Waits.scheduleFilterOf Waits.startClockOf Waits.turnClockOf Waits.turnFilterOf Waits.turnMonitorOf Waits.turnSetupOf Ends.waitEnd Hosts.after Hosts.anyDue Hosts.idle Hosts.outcomeOf Hosts.start Demand3.left
+unfolding Time.midway Time.momentOf Time.sameTime Clock.afterOf Clock.edgeOf Clock.zeroIn Clocks.availableOf Clocks.fedBy Clocks.hasZero Clocks.routedEdge Clocks.sourceOf Clocks.tapEdge Domain.domainHalfEdge Domain.oddEdge Halves.halfEdge Counts.fits Tap.routeOf Tap.routeS Tap.routeW Tap.stageBelow Tap.stageOf Wait.dated Wait.edgeDeadline Wait.waitDeadline Registers.continuedOf Registers.controlSet Registers.enterResetOf Registers.giveDataOf Registers.peekAt Registers.pullSdaOf Access.readAt Access.readDataOf Parts.redirectFrame Registers.redirected Registers.registerAt Access.resumedOf Access.sendOnOf Registers.stopReceiveOf Registers.takeControlOf Registers.takenOf Registers.writeAddressOf Access.writeAt Access.outOfResetOf Access.writeControlOf Access.writeDataOf Registers.writeEnableOf Registers.writeModeOf Access.writeCommandOf Registers.writeStatusOf Iic.advanceOf Iic.guardOf Iic.inputPinsOf Iic.keepStretchedOf Iic.peekOf Iic.readOf Iic.setGateOf Iic.takePinsOf Iic.turnGateOf Iic.turnWaitsOf Iic.visitOf Iic.writeOf Clocking.fireClockOf Clocking.fireFilterOf Clocking.fireMonitorOf Clocking.fireSetupOf Half.halfDeadline Kick.clockFrameOf Kick.kickOf Kick.launchOf Ready.lowHalfOf Ready.nextFrameOf Shift.beginFrameOf Shift.loadTransmitOf Shift.setHoldOf State.defaultIic Core.defaultCore State.stopShifterOf Core.stopCoreOf Ends.dueOf Ends.halfEnd Rates.periodOf Rates.rate Waits.scheduleFilterOf Waits.startClockOf Waits.turnClockOf Waits.turnFilterOf Waits.turnMonitorOf Waits.turnSetupOf Ends.waitEnd Hosts.after Hosts.anyDue Hosts.idle Hosts.outcomeOf Hosts.start Demand3.left
 clock-rows =
     let clocked : outcomeOf late (write 0 0xa0 (at 0)) (afterAll late start first .state) ≡ outcome nothing (onCore (setClockWait (maybe.Half (halfWait false 29))) receiving) =
     ap (λ (w : NewHalf). ofStep (clockFrom w receiving)) late-half in

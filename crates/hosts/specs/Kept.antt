@@ -7,7 +7,7 @@ use lib.Bits.{bitAnd}
 use lib.Dec.{eqb}
 use Rattle.bus.specs.declared.Levels.{Levels}
 use Rattle.bus.specs.Bits.{has}
-use Rattle.bus.specs.Bus.{sameLevels}
+use Rattle.bus.specs.Bus.{sameLevels, levels}
 use Rattle.time.specs.declared.Time.{Time}
 use Rattle.clocks.specs.declared.Clocks.{Clocks}
 use Rattle.clocks.specs.declared.wait.NewWait.{NewWait}
@@ -29,7 +29,7 @@ use Rattle.waits.specs.declared.MaybeHalf.the-variants.{NoHalf, Half}
 use Rattle.steps.specs.declared.Register.{Register}
 use Rattle.steps.specs.declared.Register.the-variants.{ICCR1, ICCR2, ICMR, ICIER, ICSR, SAR, ICDRT, ICDRR}
 use Rattle.steps.specs.Access.{registerAt, takenOf, continuedOf, takeControlOf, stopReceiveOf, enterResetOf, pullSdaOf, takesCommand, writeModeOf, writeEnableOf, writeStatusOf, writeAddressOf, giveDataOf}
-use Rattle.iic.specs.Access.{resumedOf, receiveOn, readDataOf, readAt, controlTaken, writeControlOf, commandFrom, writeCommandOf, writeResetOf, sendOnOf, writeDataOf, writeAt}
+use Rattle.iic.specs.Access.{resumedOf, receiveOn, readDataOf, readAt, controlTaken, writeControlOf, commandFrom, outOfResetOf, writeCommandOf, sendOnOf, writeDataOf, writeAt}
 use Rattle.frames.specs.Parts.{recountIn, isData}
 use Rattle.iic.specs.Answers.{fine, andThen, guarded, byteOf, truthOf}
 use Rattle.steps.specs.Bits.{TDRE, NACKF, BC, BCWP, IICRST, SDAOP}
@@ -38,7 +38,7 @@ use Rattle.steps.specs.Filter.{observes}
 use Rattle.iic.specs.Clocking.{fireFilterOf, fireSetupOf, fireMonitorOf, fireClockOf}
 use Rattle.steps.specs.Setters.{setFrame, setSeen, setRaw, setGate, setReset, setClockWait, setMonitorWait}
 use Rattle.iic.specs.State.{setFilterWait, setSetupWait, stopShifterOf, onCore}
-use Rattle.steps.specs.State.{levels, enabled, awake, transmits, conditioned, stopCoreOf}
+use Rattle.steps.specs.State.{enabled, awake, transmits, conditioned, stopCoreOf}
 use Rattle.iic.specs.Waiting.{wantsFilter, scheduleFilterOf, filterFrom, halfFrom, turnClockOf, turnFilterOf, turnHalfIn, turnMonitorOf, turnSetupOf, turnWaitIn, waitFrom}
 use Rattle.waits.specs.Ends.{turnHalf, turnWait}
 use Rattle.hosts.specs.Calls.{Call, peek, read, write, inputPins, deadline, advance, pins, interrupt, interruptWithEnable, validate, ofEnd, ofByte, ofTruth, isRefusal, outcomeOf, Host, lifts, after}
@@ -201,11 +201,11 @@ unless-lifted true s o q n h = absurd (true≢false (rw q at n))
 unless-lifted false s o q n h = h
 
 reset-settles : (value : ℕ) (now : Time) (k : Clocks) (s : Iic) (a : Bool) → has value IICRST ≡ a
-    → lifts s (writeResetOf value now k s .state) ≡ false → Settled s → Settles (writeResetOf value now k s)
-unfolding writeResetOf writeCommandOf
+    → lifts s (writeCommandOf value now k s .state) ≡ false → Settled s → Settles (writeCommandOf value now k s)
+unfolding writeCommandOf outOfResetOf
 reset-settles value now k s true p n h = rw p (enter-settled (s .core))
 reset-settles value now k s false p n h =
-    rw p (unless-lifted (s .core .flags .reset) s (writeCommandOf value now k s) refl (rw p at n)
+    rw p (unless-lifted (s .core .flags .reset) s (outOfResetOf value now k s) refl (rw p at n)
     (command-settles value now k (onCore (pullSdaOf value) s) _ refl (pull-settled value (s .core) (has value SDAOP) refl h)))
 
 -- ICMR

@@ -2,16 +2,17 @@
 use Prim.Native.Nat.{ℕ}
 use Rattle.clocks.specs.declared.Clocks.{Clocks}
 use Rattle.iic.specs.Access.{readAt, writeAt}
-use Rattle.iic.specs.Answers.{andThen, fine, goOn, guarded, refused, wentOn}
+use Rattle.iic.specs.Answers.{andThen, fine, goOn, guarded, refused}
 use Rattle.iic.specs.Kick.{kickOf}
 use Rattle.iic.specs.State.{onCore}
-use Rattle.iic.specs.Clocking.{dueAfter, firing, unfired}
+use Rattle.iic.specs.Clocking.{firing}
+use Rattle.iic.specs.Inside.{dueAfter, unfired, wentOn}
 use Rattle.iic.specs.declared.Ended.the-variants as ended
 use Rattle.iic.specs.declared.Ended.{Ended}
 use Rattle.iic.specs.declared.Iic.{Iic}
 use Rattle.iic.specs.declared.Stepped.{Stepped}
 use Rattle.steps.proofs.Register as register-type
-use Rattle.steps.specs.Access.{writePlain}
+use Rattle.steps.specs.Inside.{writePlain}
 use Rattle.steps.specs.declared.Register.the-variants.{ICCR1, ICCR2, ICDRR, ICDRT, ICIER, ICMR, ICSR, SAR}
 use Rattle.steps.specs.declared.Register.{Register}
 use Rattle.time.specs.declared.Time.{Time}

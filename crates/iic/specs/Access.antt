@@ -1,4 +1,5 @@
--- Definitions: the registers as the host reads and writes them, with what follows in time (document 01, Registers and steps; iic.rs, `read_at`, `write`).
+-- Definitions: the registers as the host reads and writes them, with what follows in time (document 01, Registers and steps; numbers in brackets
+-- are lines of iic.rs).
 use Prim.Native.Nat.{ℕ}
 use Rattle.bus.specs.Bits.{has}
 use Rattle.clocks.specs.declared.Clocks.{Clocks}
@@ -20,17 +21,21 @@ use Rattle.time.specs.declared.Time.{Time}
 use Rattle.waits.specs.declared.MaybeWait.the-variants.{NoWait}
 use mathlib.Core.Bool.{cond, false}
 
--- ## Reading
+-- ## `read_at`
 
+-- the read serves a register that SCL was held for (245)
 unfoldable pub resumedOf : Time → Clocks → Iic → Stepped
 resumedOf now k s = cond (held (s .core)) (releaseHoldOf now k s) (fine s)
 
+-- ICDRR, while not transmitting (236)
 abbrev pub receiveOn : Time → Clocks → Iic → Stepped
 receiveOn now k s = cond (transmits (s .core)) (fine s) (andThen (resumedOf now k (onCore continuedOf s)) (kickOf now k))
 
+-- ICDRR (229)
 unfoldable pub readDataOf : Time → Clocks → Iic → Stepped
 readDataOf now k s = receiveOn now k (onCore (takenOf now) s)
 
+-- ICSR is noted as seen (228); ICDRR; a read of the others changes nothing
 unfoldable pub readAt : Register → Time → Clocks → Iic → Stepped
 readAt ICCR1 now k s = fine s
 readAt ICCR2 now k s = fine s
@@ -41,43 +46,49 @@ readAt SAR now k s = fine s
 readAt ICDRT now k s = fine s
 readAt ICDRR now k s = readDataOf now k s
 
--- ## Writing ICCR1
+-- ## `write`: ICCR1
 
+-- ICE says what follows (282)
 abbrev pub controlTaken : Time → Clocks → Iic → Stepped
 controlTaken now k s =
     cond (enabled (s .core))
     (andThen (andThen (scheduleFilterOf now k s) (λ u. fine (onCore stopReceiveOf u))) (kickOf now k))
     (fine (setFilterWait NoWait (stopShifterOf s)))
 
+-- ICCR1 (263)
 unfoldable pub writeControlOf : ℕ → Time → Clocks → Iic → Stepped
 writeControlOf value now k s = controlTaken now k (onCore (takeControlOf value) s)
 
--- ## Writing ICCR2
+-- ## `write`: ICCR2
 
+-- a start or a stop is asked for, or not (318)
 abbrev pub commandFrom : ℕ → Time → Clocks → Iic → Stepped
 commandFrom value now k s =
     cond (takesCommand value (s .core)) (kickOf now k (onCore (setCommand (Commanded (has value BBSY))) s)) (fine s)
 
+-- outside the reset: SDA, then a start or a stop (306)
+unfoldable pub outOfResetOf : ℕ → Time → Clocks → Iic → Stepped
+outOfResetOf value now k s = commandFrom value now k (onCore (pullSdaOf value) s)
+
+-- a write that lifts the reset does nothing else (297)
 unfoldable pub writeCommandOf : ℕ → Time → Clocks → Iic → Stepped
-writeCommandOf value now k s = commandFrom value now k (onCore (pullSdaOf value) s)
-
--- a write that lifts the reset does nothing else
-unfoldable pub writeResetOf : ℕ → Time → Clocks → Iic → Stepped
-writeResetOf value now k s =
+writeCommandOf value now k s =
     cond (has value IICRST) (fine (setSetupWait NoWait (onCore enterResetOf s)))
-    (cond (s .core .flags .reset) (fine (onCore (setReset false) s)) (writeCommandOf value now k s))
+    (cond (s .core .flags .reset) (fine (onCore (setReset false) s)) (outOfResetOf value now k s))
 
--- ## Writing the others
+-- ## `write`: ICDRT and all
 
+-- the byte goes to a frame that SCL was held for (357)
 unfoldable pub sendOnOf : Time → Clocks → Iic → Stepped
 sendOnOf now k s = cond (isTransmitHold (s .core .hold)) (releaseHoldOf now k (onCore loadTransmitOf s)) (fine s)
 
+-- ICDRT (349)
 unfoldable pub writeDataOf : ℕ → Time → Clocks → Iic → Stepped
 writeDataOf value now k s = andThen (sendOnOf now k (onCore (giveDataOf value) s)) (kickOf now k)
 
 unfoldable pub writeAt : Register → ℕ → Time → Clocks → Iic → Stepped
 writeAt ICCR1 value now k s = writeControlOf value now k s
-writeAt ICCR2 value now k s = writeResetOf value now k s
+writeAt ICCR2 value now k s = writeCommandOf value now k s
 writeAt ICMR value now k s = fine (onCore (writeModeOf value) s)
 writeAt ICIER value now k s = fine (onCore (writeEnableOf value) s)
 writeAt ICSR value now k s = kickOf now k (onCore (writeStatusOf value) s)

@@ -2,7 +2,6 @@
 use Prim.Native.Nat.{ℕ}
 use Rattle.clocks.specs.declared.Truth.the-variants as truth
 use Rattle.clocks.specs.declared.Truth.{Truth}
-use Rattle.iic.specs.State.{setCore}
 use Rattle.iic.specs.declared.Byte.the-variants as byte
 use Rattle.iic.specs.declared.Byte.{Byte}
 use Rattle.iic.specs.declared.Ended.the-variants.{Finished, Refused}
@@ -11,9 +10,8 @@ use Rattle.iic.specs.declared.Iic.{Iic}
 use Rattle.iic.specs.declared.Noticed.{Noticed}
 use Rattle.iic.specs.declared.ReadOut.{ReadOut}
 use Rattle.iic.specs.declared.Stepped.{Stepped}
-use Rattle.steps.specs.declared.Core.{Core}
 use lib.Dec.{eqb}
-use mathlib.Core.Bool.{Bool, cond, false, true}
+use mathlib.Core.Bool.{Bool, cond}
 
 -- a step that went through
 abbrev pub fine : Iic → Stepped
@@ -22,15 +20,6 @@ fine s = record { ended = Finished; state = s }
 -- a step that was refused by the number n, with the state at that point
 abbrev pub refused : ℕ → Iic → Stepped
 refused n s = record { ended = Refused n; state = s }
-
--- whether a step went through
-abbrev pub wentOn : Ended → Bool
-wentOn Finished = true
-wentOn (Refused n) = false
-
--- its state with another core
-abbrev pub withCore : Core → Stepped → Stepped
-withCore x o = record { ended = o .ended; state = setCore x (o .state) }
 
 abbrev pub goOn : Ended → Stepped → (Iic → Stepped) → Stepped
 goOn Finished o f = f (o .state)

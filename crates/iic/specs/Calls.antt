@@ -1,7 +1,7 @@
--- Definitions: the eleven calls (iic.rs, each the function of its name). Each decides the answer and the whole next state, refused or not
--- (document 01, demand 2).
+-- Definitions: the eleven calls (iic.rs, each the function of its name; numbers in brackets are its lines). Each decides the answer and the whole
+-- next state, refused or not (document 01, demand 2).
 use Prim.Native.Nat.{ℕ}
-use Rattle.bus.specs.Bus.{sameLevels}
+use Rattle.bus.specs.Bus.{levels, sameLevels}
 use Rattle.bus.specs.declared.Levels.{Levels}
 use Rattle.clocks.specs.Clocks.{hasZero}
 use Rattle.clocks.specs.declared.Clocks.{Clocks}
@@ -23,7 +23,7 @@ use Rattle.steps.specs.Access.{peekAt, registerAt}
 use Rattle.steps.specs.Checks.{fellBy, halvesRefusal, interruptWith, progressHolds, rangesHold}
 use Rattle.steps.specs.Filter.{observes}
 use Rattle.steps.specs.Setters.{setGate, setRaw}
-use Rattle.steps.specs.State.{awake, enabled, levels}
+use Rattle.steps.specs.State.{awake, enabled}
 use Rattle.time.specs.declared.Time.{Time}
 use Rattle.waits.specs.Ends.{halfEnd, sooner, tapRefusal, waitEnd}
 use lib.Dec.{eqb}
@@ -37,7 +37,7 @@ guardBy z s = cond z 1 (cond (not (rangesHold (s .core))) 9 (cond (not (progress
 unfoldable pub guardOf : Iic → Clocks → ℕ
 guardOf s k = guardBy (hasZero k) s
 
--- ## Registers
+-- ## Registers: `peek`, `read`, `write` (197, 215, 255)
 
 unfoldable pub peekOf : Iic → ℕ → ℕ
 peekOf s a = peekAt (registerAt a) (s .core)
@@ -48,9 +48,9 @@ readOf s a now k = answered (guarded (guardOf s k) s (readAt (registerAt a) now 
 unfoldable pub writeOf : Iic → ℕ → ℕ → Time → Clocks → Stepped
 writeOf s a value now k = guarded (guardOf s k) s (writeAt (registerAt a) value now k s)
 
--- ## Levels
+-- ## Levels: `input_pins`, `pins` (430, 184)
 
--- iic.rs, `input_pins`
+-- levels equal to those held as given change nothing (437)
 unfoldable pub takePinsOf : Levels → Time → Clocks → Iic → Stepped
 takePinsOf given now k s = cond (sameLevels (s .core .lines .raw) given) (fine s) (scheduleFilterOf now k (onCore (setRaw given) s))
 
@@ -61,29 +61,31 @@ inputPinsOf s scl sda now k =
 abbrev pub pinsOf : Iic → Pins
 pinsOf s = cond (enabled (s .core)) (Driven (s .core .lines .drive)) NoPins
 
--- ## The gate
+-- ## The gate: `set_gate` (380)
 
--- a wait that a stretched clock paused stays paused
+-- a wait that a stretched clock paused stays paused (395)
 unfoldable pub keepStretchedOf : Bool → Time → Clocks → Iic → Stepped
 keepStretchedOf gate now k s = cond (gate && s .core .flags .«synchronized_hold») (turnClockOf false now k s) (fine s)
 
+-- clock, monitor, filter, setup (385 to 409)
 unfoldable pub turnWaitsOf : Bool → Time → Clocks → Iic → Stepped
 turnWaitsOf gate now k s =
     andThen (andThen (andThen (andThen (turnClockOf gate now k s) (turnMonitorOf gate now k)) (keepStretchedOf gate now k))
     (turnFilterOf gate now k)) (turnSetupOf gate now k)
 
+-- a gate that goes on also starts what is due (410)
 abbrev pub gateTurned : Bool → Time → Clocks → Iic → Stepped
 gateTurned gate now k s =
     cond gate (andThen (andThen (turnWaitsOf gate now k s) (scheduleFilterOf now k)) (kickOf now k)) (turnWaitsOf gate now k s)
 
--- iic.rs, `set_gate`
+-- an equal gate changes nothing (381)
 unfoldable pub turnGateOf : Bool → Time → Clocks → Iic → Stepped
 turnGateOf gate now k s = cond (Bool·beq (s .core .flags .gate) gate) (fine s) (gateTurned gate now k (onCore (setGate gate) s))
 
 unfoldable pub setGateOf : Iic → Bool → Time → Clocks → Stepped
 setGateOf s gate now k = guarded (guardOf s k) s (turnGateOf gate now k s)
 
--- ## Time
+-- ## Time: `deadline`, `advance` (445, 463)
 
 -- the earliest of filter, clock, monitor and setup, refused at the first that is refused
 unfoldable pub earliestOf : Iic → Clocks → Deadline
@@ -91,11 +93,11 @@ earliestOf s k =
     sooner (waitEnd (s .«filter_wait») k) (sooner (halfEnd (s .core .«clock_wait») k)
     (sooner (halfEnd (s .core .«monitor_wait») k) (waitEnd (s .«setup_wait») k)))
 
--- none while off
+-- none while the gate is off or the peripheral disabled (446)
 unfoldable pub deadlineOf : Iic → Clocks → Deadline
 deadlineOf s k = cond (hasZero k) (deadline.Refused 1) (cond (awake (s .core)) (earliestOf s k) deadline.Never)
 
--- a visit: filter, setup, monitor, clock, each looked at after the one before has acted
+-- document 01: filter, setup, monitor, clock, each looked at after the one before has acted
 unfoldable pub visitOf : Time → Clocks → Iic → Stepped
 visitOf now k s =
     cond (awake (s .core))
@@ -105,13 +107,12 @@ visitOf now k s =
 unfoldable pub advanceOf : Iic → Time → Clocks → Stepped
 advanceOf s now k = guarded (guardOf s k) s (visitOf now k s)
 
--- ## Interrupts
+-- ## Interrupts: `interrupt_with_enable`, and `interrupt`, which is it with 0 (190, 187)
 
--- with further enables that the host retained
 abbrev pub interruptWithEnableOf : Iic → ℕ → Bool
 interruptWithEnableOf s retained = interruptWith (s .core) retained
 
--- ## `validate`: 9, 10, 11, 12, or 0
+-- ## `validate`: 9, 10, 11, 12, or 0 (894)
 
 -- the first of two refusals
 abbrev pub firstOf : ℕ → ℕ → ℕ

@@ -1,4 +1,5 @@
--- Definitions: what filtered levels bring: the falling clock, a condition under way, and `filtered_edges` of iic.rs.
+-- Definitions: what filtered levels bring: the falling clock, a condition under way, and `filtered_edges`. Numbers in brackets are lines of
+-- iic.rs.
 use Prim.Native.Nat.{_*_, _+_}
 use Rattle.bus.specs.declared.Levels.{Levels}
 use Rattle.clocks.specs.Counts.{fits}
@@ -26,9 +27,9 @@ use Rattle.waits.specs.declared.MaybeHalf.the-variants.{Half, NoHalf}
 use Rattle.waits.specs.declared.MaybeHalf.{MaybeHalf}
 use mathlib.Core.Bool.{Bool, _&&_, cond, false, not, true}
 
--- ## `falling`
+-- ## `falling` (694)
 
--- ICMR's WAIT lengthens a master's wait by two clocks
+-- ICMR's WAIT lengthens a master's wait by two clocks, paused or not (753)
 abbrev pub longer : MaybeHalf → Iic → Stepped
 longer NoHalf s = fine s
 longer (Half w) s = clockFrom (madeHalf (w .paused) (fits (w .count + 4 * periodOf (s .core .registers .control)))) s
@@ -36,7 +37,7 @@ longer (Half w) s = clockFrom (madeHalf (w .paused) (fits (w .count + 4 * period
 unfoldable pub insertWaitOf : Iic → Stepped
 insertWaitOf s = cond (insertsWait (s .core)) (longer (s .core .«clock_wait») s) (fine s)
 
--- the eighth fall
+-- the eighth fall, then ICMR's WAIT (740)
 unfoldable pub fallAckOf : Frame → Time → Iic → Stepped
 fallAckOf f now s = insertWaitOf (onCore (fallTakenOf f now) s)
 
@@ -52,7 +53,7 @@ fallIn (InFrame f) now s = fallAt (f .phase) f now s
 unfoldable pub fallOf : Time → Iic → Stepped
 fallOf now s = fallIn (s .core .frame) now s
 
--- what follows the kick within `falling`
+-- what follows the kick (710)
 abbrev pub fallOn : Time → Iic → Stepped
 fallOn now s = fallOf now (onCore followOf s)
 
@@ -61,28 +62,29 @@ fallingOf now k s =
     cond (conditioned (s .core)) (fine s)
     (cond (commanded (s .core)) (kickOf now k s) (andThen (kickOf now k (onCore endFrameOf s)) (fallOn now)))
 
--- ## `filtered_edges`
+-- ## `filtered_edges` (508)
 
--- SCL is high again: the wait that a stretched clock paused goes on
-unfoldable pub stretchedOf : Time → Clocks → Iic → Stepped
-stretchedOf now k s =
+-- SCL is high again: the wait that a stretched clock paused goes on (543)
+unfoldable pub stretchEndsOf : Time → Clocks → Iic → Stepped
+stretchEndsOf now k s =
     cond (s .core .flags .«synchronized_hold» && s .core .lines .filtered .scl)
     (turnClockOf true now k (onCore (setSynchronizedHold false) s)) (fine s)
 
--- a condition under way goes on as the levels have risen
+-- a condition under way goes on as the levels have risen (549)
 unfoldable pub conditionStepOf : Time → Clocks → Iic → Stepped
 conditionStepOf now k s = cond (conditionHigh (s .core)) (startClockOf now k (onCore raisedOf s)) (fine s)
 
--- the clock itself rises or falls
+-- the clock itself rises or falls (557)
 unfoldable pub sclEdgeOf : Bool → Time → Clocks → Iic → Stepped
 sclEdgeOf was now k s =
     cond (not was && s .core .lines .filtered .scl) (fine (onCore (risingOf (s .core .lines .filtered .sda)) s))
     (cond (was && not (s .core .lines .filtered .scl)) (fallingOf now k s) (fine s))
 
+-- nothing more in reset (540)
 abbrev pub edgesFrom : Bool → Time → Clocks → Iic → Stepped
 edgesFrom was now k s =
     cond (s .core .flags .reset) (fine s)
-    (andThen (andThen (stretchedOf now k s) (conditionStepOf now k)) (sclEdgeOf was now k))
+    (andThen (andThen (stretchEndsOf now k s) (conditionStepOf now k)) (sclEdgeOf was now k))
 
 unfoldable pub filteredEdgesOf : Levels → Time → Clocks → Iic → Stepped
 filteredEdgesOf old now k s = edgesFrom (old .scl) now k (onCore (busEdgeOf old) s)

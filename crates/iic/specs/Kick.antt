@@ -1,4 +1,4 @@
--- Definitions: `kick`, which starts what is due (a condition, a frame, a clock), and `release_hold` of iic.rs.
+-- Definitions: `kick`, which starts what is due (a condition, a frame, a clock), and `release_hold`. Numbers in brackets are lines of iic.rs.
 use Rattle.clocks.specs.declared.Clocks.{Clocks}
 use Rattle.frames.specs.Parts.{isDone, starved}
 use Rattle.frames.specs.declared.Frame.{Frame}
@@ -20,7 +20,7 @@ use Rattle.steps.specs.declared.Hold.the-variants.{NoHold, Transmit}
 use Rattle.time.specs.declared.Time.{Time}
 use mathlib.Core.Bool.{cond, not}
 
--- ## A command
+-- ## A command (797)
 
 abbrev pub commandIn : Command → Time → Clocks → Iic → Stepped
 commandIn NoCommand now k s = fine s
@@ -31,6 +31,7 @@ beginConditionOf now k s = commandIn (s .core .command) now k s
 
 -- ## A clock
 
+-- a frame that is through starts none; one that waits for its byte holds SCL; else SCL goes low for half a clock (833)
 unfoldable pub launchOf : Frame → Time → Clocks → Iic → Stepped
 launchOf f now k s =
     cond (isDone (f .phase)) (fine s)
@@ -41,10 +42,11 @@ abbrev pub launchIn : Framing → Time → Clocks → Iic → Stepped
 launchIn NoFrame now k s = fine s
 launchIn (InFrame f) now k s = launchOf f now k s
 
+-- where one is due (826)
 unfoldable pub clockFrameOf : Time → Clocks → Iic → Stepped
 clockFrameOf now k s = cond (clockDue (s .core)) (launchIn (s .core .frame) now k s) (fine s)
 
--- ## `kick`
+-- ## `kick`: a command comes before a frame, and a frame before its clock (789)
 
 unfoldable pub kickOf : Time → Clocks → Iic → Stepped
 kickOf now k s =
@@ -52,7 +54,7 @@ kickOf now k s =
     (cond (commandReady (s .core)) (beginConditionOf now k s)
     (clockFrameOf now k (setCore (loadTransmitOf (nextFrameOf (s .core))) s)))
 
--- ## `release_hold`: a master waits half a clock, a slave its setup wait; then SDA as the frame has it
+-- ## `release_hold`: a master waits half a clock, a slave its setup wait; then SDA as the frame has it (772)
 
 unfoldable pub waitAfterHoldOf : Time → Clocks → Iic → Stepped
 waitAfterHoldOf now k s = cond (master (s .core)) (startClockOf now k s) (startSetupOf now k s)

@@ -6,4 +6,5 @@ pub mod Edges
 pub mod Clocking
 pub mod Access
 pub mod Calls
+pub mod Inside
 pub mod Rows

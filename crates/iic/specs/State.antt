@@ -1,4 +1,4 @@
--- Definitions: the default, the state with one part set anew, and a step on its core (iic.rs, `Default`, `stop_shifter`).
+-- Definitions: the default, the state with one part set anew, and a step on its core. Numbers in brackets are lines of iic.rs.
 use Rattle.iic.specs.declared.Iic.{Iic}
 use Rattle.steps.specs.State.{defaultCore, stopCoreOf}
 use Rattle.steps.specs.declared.Core.{Core}
@@ -18,10 +18,10 @@ setSetupWait x s = record { core = s .core; «filter_wait» = s .«filter_wait»
 abbrev pub onCore : (Core → Core) → Iic → Iic
 onCore f s = setCore (f (s .core)) s
 
--- iic.rs, `Default`
+-- `Default` (131)
 unfoldable pub defaultIic : Iic
 defaultIic = record { core = defaultCore; «filter_wait» = NoWait; «setup_wait» = NoWait }
 
--- iic.rs, `stop_shifter`: all that is under way stops, and both lines are released
+-- `stop_shifter`: all that is under way stops, and both lines are released (367)
 unfoldable pub stopShifterOf : Iic → Iic
 stopShifterOf s = setSetupWait NoWait (onCore stopCoreOf s)

@@ -1,4 +1,4 @@
--- Definitions: how the four waits of a state start, pause and resume (iic.rs, `schedule_filter`, `set_gate`; document 01, Registers and steps).
+-- Definitions: how the four waits of a state start, pause and resume (document 01, Registers and steps; numbers in brackets are lines of iic.rs).
 use Rattle.clocks.specs.Tap.{systemTap}
 use Rattle.clocks.specs.Wait.{waitAfter}
 use Rattle.clocks.specs.declared.Clocks.{Clocks}
@@ -45,26 +45,26 @@ filterFrom w s = waitFrom setFilterWait w s
 abbrev pub setupFrom : NewWait → Iic → Stepped
 setupFrom w s = waitFrom setSetupWait w s
 
--- half a clock from now on (iic.rs, `period`)
+-- half a clock from now on (552, 555, 775, 808, 850, 864, 879)
 unfoldable pub startClockOf : Time → Clocks → Iic → Stepped
 startClockOf now k s = clockFrom (halfAfter now (periodOf (s .core .registers .control)) k) s
 
--- iic.rs, `clock_step`: until a rising clock is looked at
+-- until a rising clock is looked at (881)
 unfoldable pub startMonitorOf : Time → Clocks → Iic → Stepped
 startMonitorOf now k s = monitorFrom (halfAfter now (monitorHalves (s .core .registers .control)) k) s
 
--- iic.rs, `release_hold`: before a slave lets SCL go
+-- before a slave releases SCL (777)
 unfoldable pub startSetupOf : Time → Clocks → Iic → Stepped
 startSetupOf now k s = setupFrom (waitAfter now (setupCycles (s .core .registers .control)) (systemTap 1) k) s
 
--- iic.rs, `schedule_filter`: a level is still on its way through the filter
+-- `schedule_filter`: enabled, gate on, no such wait yet, and a level still on its way through the filter (416)
 abbrev pub wantsFilter : Iic → Bool
 wantsFilter s = awake (s .core) && not (isWait (s .«filter_wait»)) && unsettled (s .core)
 
 unfoldable pub scheduleFilterOf : Time → Clocks → Iic → Stepped
 scheduleFilterOf now k s = cond (wantsFilter s) (filterFrom (waitAfter now 1 (systemTap 1) k) s) (fine s)
 
--- ## Pausing (the gate goes off: false) and resuming (on: true)
+-- ## `set_gate`, and a stretched clock: waits resume (true) and pause (false)
 
 abbrev pub turnHalfIn : (NewHalf → Iic → Stepped) → Bool → Time → Clocks → MaybeHalf → Iic → Stepped
 turnHalfIn from gate now k NoHalf s = fine s
@@ -74,12 +74,14 @@ abbrev pub turnWaitIn : (NewWait → Iic → Stepped) → Bool → Time → Cloc
 turnWaitIn from gate now k NoWait s = fine s
 turnWaitIn from gate now k (Waiting w) s = from (turnWait gate now k w) s
 
+-- the clock's (385 to 394), and while SCL is stretched (397, 497, 546)
 unfoldable pub turnClockOf : Bool → Time → Clocks → Iic → Stepped
 turnClockOf gate now k s = turnHalfIn clockFrom gate now k (s .core .«clock_wait») s
 
 unfoldable pub turnMonitorOf : Bool → Time → Clocks → Iic → Stepped
 turnMonitorOf gate now k s = turnHalfIn monitorFrom gate now k (s .core .«monitor_wait») s
 
+-- the filter's, then the setup's (400 to 409)
 unfoldable pub turnFilterOf : Bool → Time → Clocks → Iic → Stepped
 turnFilterOf gate now k s = turnWaitIn filterFrom gate now k (s .«filter_wait») s
 

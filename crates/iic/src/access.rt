@@ -2,7 +2,7 @@
 ghost use mathlib.Core.Path.{_≡_};
 ghost use Rattle.iic.specs.Answers.{fine, andThen};
 ghost use Rattle.iic.specs.State.{onCore};
-ghost use Rattle.iic.specs.Access.{readDataOf, readAt, writeControlOf, writeResetOf, writeDataOf, writeAt};
+ghost use Rattle.iic.specs.Access.{readDataOf, readAt, writeControlOf, writeCommandOf, writeDataOf, writeAt};
 ghost use Rattle.steps.specs.Access.{stopReceiveOf};
 use super::Iic;
 use super::Stepped;
@@ -47,7 +47,7 @@ impl Iic {
     }
 
     fn write_command(mut self, value: u8, now: Time, clocks: Clocks) -> Stepped
-        ensures { λ r. ⌜ r ≡ writeResetOf value now clocks self ⌝ }
+        ensures { λ r. ⌜ r ≡ writeCommandOf value now clocks self ⌝ }
     {
         let resets = value & IICRST != 0;
         if resets {

@@ -1,6 +1,7 @@
 // How steps end.
 ghost use mathlib.Core.Path.{_≡_};
-ghost use Rattle.iic.specs.Answers.{fine, refused, wentOn, withCore, byteOf, truthOf};
+ghost use Rattle.iic.specs.Answers.{fine, refused, byteOf, truthOf};
+ghost use Rattle.iic.specs.Inside.{wentOn, withCore};
 use super::Byte;
 use super::Ended;
 use super::Iic;

@@ -1,7 +1,8 @@
 // What each of the four waits brings when it fires.
 ghost use mathlib.Core.Path.{_≡_};
 ghost use Rattle.iic.specs.Answers.{andThen};
-ghost use Rattle.iic.specs.Clocking.{monitorStepOf, toggleOf, clockStepOf, dueAfter, unfired, filterFiresOf, fireFilterOf, fireSetupOf, stretchOf, fireMonitorOf, fireClockOf};
+ghost use Rattle.iic.specs.Clocking.{monitorStepOf, toggleOf, clockStepOf, filterFiresOf, fireFilterOf, fireSetupOf, stretchOf, fireMonitorOf, fireClockOf};
+ghost use Rattle.iic.specs.Inside.{dueAfter, unfired};
 ghost use Rattle.waits.specs.Ends.{dueOf};
 use super::Iic;
 use super::Stepped;
@@ -74,7 +75,7 @@ impl Iic {
 }
 
 impl Stepped {
-    // A rising clock is watched, a falling one is not.
+    // A rising clock is looked at after the monitor's wait, a falling one is not.
     fn monitor_step(mut self, now: Time, clocks: Clocks) -> Stepped
         ensures { λ r. ⌜ r ≡ andThen self (monitorStepOf now clocks) ⌝ }
     {
@@ -122,7 +123,7 @@ impl Stepped {
         state.filter_fires(now, clocks)
     }
 
-    // A slave lets SCL go.
+    // A slave releases SCL.
     pub(crate) fn fire_setup(self, now: Time, clocks: Clocks) -> Stepped
         ensures { λ r. ⌜ r ≡ andThen self (fireSetupOf now clocks) ⌝ }
     {

@@ -1,7 +1,7 @@
 // What filtered levels bring: the edges of the clock, and a condition under way.
 ghost use mathlib.Core.Path.{_≡_};
 ghost use Rattle.iic.specs.Answers.{andThen};
-ghost use Rattle.iic.specs.Edges.{longer, fallAt, fallOn, fallingOf, stretchedOf, conditionStepOf, sclEdgeOf, filteredEdgesOf};
+ghost use Rattle.iic.specs.Edges.{longer, fallAt, fallOn, fallingOf, stretchEndsOf, conditionStepOf, sclEdgeOf, filteredEdgesOf};
 use super::Iic;
 use super::Stepped;
 use bus::Levels;
@@ -68,8 +68,8 @@ impl Iic {
     }
 
     // SCL is high again: the wait that a stretched clock paused goes on.
-    fn stretched(mut self, now: Time, clocks: Clocks) -> Stepped
-        ensures { λ r. ⌜ r ≡ stretchedOf now clocks self ⌝ }
+    fn stretch_ends(mut self, now: Time, clocks: Clocks) -> Stepped
+        ensures { λ r. ⌜ r ≡ stretchEndsOf now clocks self ⌝ }
     {
         let ends = self.core.flags.synchronized_hold & self.core.lines.filtered.scl;
         if ends {
@@ -86,7 +86,7 @@ impl Iic {
         if self.core.flags.reset {
             return self.fine();
         }
-        let mut next = self.stretched(now, clocks);
+        let mut next = self.stretch_ends(now, clocks);
         next = next.condition_step(now, clocks);
         next.scl_edge(old.scl, now, clocks)
     }

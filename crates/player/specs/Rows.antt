@@ -1,12 +1,12 @@
--- Laws: rows of the format, computed from the definitions: the lines of document 01's example and its answer lines, the widest line, and lines that no
--- call spells.
+-- Laws: rows of the format, computed from the definitions: the lines of document 01's example and its answer lines, a line at the last time, and lines
+-- that no call spells.
 -- Assumes nothing.
 use mathlib.Core.Path.{_≡_, refl}
 use mathlib.Core.Bool.{true, false}
 use mathlib.Core.List.{[], _∷_}
 use Prim.Native.Nat.{ℕ, _-_, _^_}
 use Rattle.iic.specs.declared.Pins.the-variants.{NoPins, Driven}
-use Rattle.steps.specs.State.{levels}
+use Rattle.bus.specs.Bus.{levels}
 use Rattle.player.specs.declared.Verb.{Verb}
 use Rattle.player.specs.declared.Verb.the-variants.{Read, Write, Pins, Gate}
 use Rattle.player.specs.declared.Call.{Call}

@@ -8,8 +8,8 @@ use Rattle.frames.specs.declared.Phase.{Phase}
 use Rattle.steps.proofs.Condition as condition
 use Rattle.steps.proofs.Hold as hold
 use Rattle.steps.proofs.Register as register
-use Rattle.steps.specs.Access.{writePlain}
-use Rattle.steps.specs.Conditions.{beginAddressOf, busStartOf, clockedAt, highAt, isStartHold, loseStartOf, raisedAt}
+use Rattle.steps.specs.Conditions.{beginAddressOf, busStartOf, clockedAt, highAt, isStartHold, raisedAt}
+use Rattle.steps.specs.Inside.{writePlain}
 use Rattle.steps.specs.Ready.{levelAt}
 use Rattle.steps.specs.Setters.{setBusy, setCompleted, setReceiveStopped, setSelected}
 use Rattle.steps.specs.Shift.{beginFrameOf, hits, matchedOf, selectOf, whenLostOf}
@@ -22,7 +22,7 @@ use Rattle.steps.specs.declared.Hold.{Hold}
 use Rattle.steps.specs.declared.Register.the-variants.{ICCR1, ICCR2, ICDRR, ICDRT, ICIER, ICMR, ICSR, SAR}
 use Rattle.steps.specs.declared.Register.{Register}
 use denote.Enum.Declared.{tagOf}
-use mathlib.Core.Bool.{Bool, _&&_, cond, false, false≢true, not, true, true≢false}
+use mathlib.Core.Bool.{Bool, _&&_, cond, false, false≢true, true, true≢false}
 use mathlib.Core.List.{List, [], _∷_}
 use mathlib.Core.Path.{_≡_, ap, refl, sym}
 use types.Run.{OneOf, miss}
@@ -52,7 +52,7 @@ started s = setBusy true (setSelected false (setCompleted false (setReceiveStopp
 
 pub start-as : (s w : Core) → w ≡ whenLostOf (master s && s .lines .drive .sda) s →
     cond (w .flags .reset) (started w) (beginFrameOf true (started w)) ≡ busStartOf s
-unfolding busStartOf beginAddressOf loseStartOf whenLostOf
+unfolding busStartOf beginAddressOf
 start-as s w e = ap (λ (x : Core). cond (x .flags .reset) (started x) (beginFrameOf true (started x))) e
 
 -- ## Conditions, where an arm names none: by the numbers of those that are left

@@ -1,9 +1,9 @@
--- Definitions: what a core must meet, and what it asks of its host (document 01, "Refused because of the state"; iic.rs, `validate`,
--- `interrupt_with_enable`).
-use Prim.Native.Nat.{ℕ}
-use Rattle.bus.specs.Bits.{flag, has}
+-- Definitions: what a core must meet, and what it asks of its host (document 01, "Refused because of the state"; `validate`,
+-- `interrupt_with_enable`; numbers in brackets are lines of iic.rs).
+use Prim.Native.Nat.{_+_, ℕ}
+use Rattle.bus.specs.Bits.{flag, has, without}
 use Rattle.frames.specs.Parts.{progressIn}
-use Rattle.steps.specs.Bits.{AL, NACKF, NAKIE, STOP}
+use Rattle.steps.specs.Bits.{AL, MLS, NACKF, NAKIE, RDRF, STOP, TDRE, TEND, WAIT}
 use Rattle.steps.specs.State.{synchronous}
 use Rattle.steps.specs.declared.Core.{Core}
 use Rattle.steps.specs.declared.EighthFall.{EighthFall}
@@ -17,37 +17,38 @@ use mathlib.Core.Bool.{Bool, _&&_, _||_, cond, not, true}
 
 -- ## What 9 and 10 ask, before a call and in `validate`
 
--- document 01, 9: a count above 7, or mode bits outside c0
+-- document 01, refused 9 where this doesn't hold: a count of at most 7, and no mode bits but MLS and WAIT (897)
 abbrev pub rangesHold : Core → Bool
-rangesHold s = ltb (s .registers .count) 8 && eqb (bitAnd (s .registers .mode) 0x3f) 0
+rangesHold s = ltb (s .registers .count) 8 && eqb (without (s .registers .mode) (MLS + WAIT)) 0
 
--- document 01, 10
+-- document 01, refused 10 where this doesn't hold (902)
 abbrev pub progressHolds : Core → Bool
 progressHolds s = progressIn (s .frame)
 
 -- ## What `validate` asks beside that
 
--- document 01, 9: an eighth fall that isn't later than now
+-- document 01, refused 9 where this doesn't hold: an eighth fall isn't later than now (899)
 abbrev pub fellBy : EighthFall → Time → Bool
 fellBy NoFall now = true
 fellBy (FellAt t) now = not (earlier now t)
 
--- document 01, 12: a half count within 1023 of the top
+-- document 01, 12: a half count within 1023 of the top (914)
 abbrev pub halvesRefusal : Core → ℕ
 halvesRefusal s = cond (shortHalf (s .«clock_wait») && shortHalf (s .«monitor_wait»)) 0 12
 
 -- ## Interrupts
 
--- NACKF asks for nothing in synchronous mode
+-- NAKIE asks for AL, and outside synchronous mode for NACKF (195)
 abbrev pub nackMask : Core → ℕ
 nackMask s = bitOr AL (flag (not (synchronous s)) NACKF)
 
+-- a flag and its enable: TDRE, TEND and RDRF; STOP outside synchronous mode; NACKF and AL share NAKIE (192)
 abbrev pub interruptBy : Core → ℕ → Bool
 interruptBy s enable =
-    has (bitAnd (s .registers .status) enable) 0xe0
+    has (bitAnd (s .registers .status) enable) (TDRE + TEND + RDRF)
     || not (synchronous s) && has (bitAnd (s .registers .status) enable) STOP
     || has enable NAKIE && has (s .registers .status) (nackMask s)
 
--- with further enables that the host retained
+-- with further enables that the host retained (190)
 abbrev pub interruptWith : Core → ℕ → Bool
 interruptWith s retained = interruptBy s (bitOr (s .registers .enable) retained)

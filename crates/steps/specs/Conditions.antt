@@ -1,12 +1,12 @@
--- Definitions: starts and stops: those of the bus, and those that the master makes (iic.rs, `filtered_edges`, `kick`, `clock_step`).
+-- Definitions: starts and stops: those of the bus, and those that the master makes. Numbers in brackets are lines of iic.rs.
 use Rattle.bus.specs.Bits.{flag}
-use Rattle.bus.specs.Bus.{isStart, isStop}
+use Rattle.bus.specs.Bus.{isStart, isStop, levels}
 use Rattle.bus.specs.declared.Levels.{Levels}
 use Rattle.frames.specs.declared.Framing.the-variants.{NoFrame}
 use Rattle.steps.specs.Bits.{STOP}
 use Rattle.steps.specs.Setters.{setBusy, setCommand, setCompleted, setCondition, setDrive, setFrame, setHold, setMonitorWait, setReceiveEnabled, setReceiveStopped, setSelected, setSynchronizedHold}
-use Rattle.steps.specs.Shift.{arbitrationLostOf, beginFrameOf}
-use Rattle.steps.specs.State.{driveScl, driveSda, levels, master, raise, synchronous, unclocked}
+use Rattle.steps.specs.Shift.{beginFrameOf, whenLostOf}
+use Rattle.steps.specs.State.{driveScl, driveSda, master, raise, synchronous, unclocked}
 use Rattle.steps.specs.declared.Command.the-variants.{NoCommand}
 use Rattle.steps.specs.declared.Condition.{Condition}
 use Rattle.steps.specs.declared.Condition.the-variants.{NoCondition, StartRelease, StartHigh, StartHold, StopLow, StopHigh, StopRelease, StopDetect}
@@ -15,54 +15,56 @@ use Rattle.steps.specs.declared.Hold.the-variants.{NoHold}
 use Rattle.waits.specs.declared.MaybeHalf.the-variants.{NoHalf}
 use mathlib.Core.Bool.{Bool, _&&_, _||_, cond, false, true}
 
--- ## A stop and a start of the bus
+-- ## `filtered_edges`: a stop and a start of the bus
 
+-- except in reset (524)
 unfoldable pub releaseSdaOf : Core → Core
 releaseSdaOf s = cond (s .flags .reset) s (driveSda true s)
 
+-- STOP is raised for a selected slave, and for a master that completed a frame (516)
 abbrev pub stopNoted : Core → Core
 stopNoted s = raise (flag (s .flags .selected || master s && s .flags .completed) STOP) s
 
+-- a stop (511)
 unfoldable pub busStopOf : Core → Core
 busStopOf s =
     releaseSdaOf (setBusy false (setCondition NoCondition (setFrame NoFrame (setSelected false (setReceiveEnabled false
     (setReceiveStopped false (setHold NoHold (unclocked (stopNoted s)))))))))
 
--- a start that the master did not make
-unfoldable pub loseStartOf : Core → Core
-loseStartOf s = cond (master s && s .lines .drive .sda) (arbitrationLostOf s) s
-
--- the address frame, except in reset
+-- the address frame, except in reset (535)
 unfoldable pub beginAddressOf : Core → Core
 beginAddressOf s = cond (s .flags .reset) s (beginFrameOf true s)
 
+-- a master loses arbitration by a start that it did not make (528)
 unfoldable pub busStartOf : Core → Core
 busStartOf s =
-    beginAddressOf (setBusy true (setSelected false (setCompleted false (setReceiveStopped false (loseStartOf s)))))
+    beginAddressOf (setBusy true (setSelected false (setCompleted false (setReceiveStopped false
+    (whenLostOf (master s && s .lines .drive .sda) s)))))
 
--- document 01: outside synchronous mode
+-- document 01: outside synchronous mode (510)
 unfoldable pub busEdgeOf : Levels → Core → Core
 busEdgeOf old s =
     cond (synchronous s) s
     (cond (isStop old (s .lines .filtered)) (busStopOf s) (cond (isStart old (s .lines .filtered)) (busStartOf s) s))
 
--- ## A command
+-- ## `kick`: a command
 
 abbrev pub firstCondition : Bool → Condition
 firstCondition start = cond start StartRelease StopLow
 
+-- the command is taken, and SCL goes low; a clock wait stays until the next one is there (797)
 unfoldable pub begunOf : Bool → Core → Core
 begunOf start s =
     setCommand NoCommand (setFrame NoFrame (setHold NoHold (setMonitorWait NoHalf (setSynchronizedHold false
     (setDrive (levels false start) (setCondition (firstCondition start) s))))))
 
--- ## `clock_step`
+-- ## `clock_step`: a condition under way
 
--- SDA goes high: the stop that the peripheral itself will see
+-- SDA goes high: the stop that the peripheral itself will see (870)
 abbrev pub stopReleased : Core → Core
 stopReleased s = setCondition StopDetect (setFrame NoFrame (setReceiveEnabled false (driveSda true s)))
 
--- a condition under way goes a stage on as the clock's wait ends
+-- it goes a stage on as the clock's wait ends (855)
 abbrev pub clockedAt : Condition → Core → Core
 clockedAt NoCondition s = s
 clockedAt StartRelease s = setCondition StartHigh (driveScl true s)
@@ -76,7 +78,7 @@ clockedAt StopDetect s = s
 unfoldable pub clockedOf : Core → Core
 clockedOf s = clockedAt (s .condition) s
 
--- SCL is about to fall for a start
+-- SCL is about to fall for a start (860)
 abbrev pub isStartHold : Condition → Bool
 isStartHold NoCondition = false
 isStartHold StartRelease = false
@@ -87,9 +89,9 @@ isStartHold StopHigh = false
 isStartHold StopRelease = false
 isStartHold StopDetect = false
 
--- ## `filtered_edges`
+-- ## `filtered_edges`: a condition under way
 
--- the levels are high for which a condition under way has waited
+-- the levels are high for which it has waited (549, 553)
 abbrev pub highAt : Condition → Levels → Bool
 highAt NoCondition l = false
 highAt StartRelease l = false
@@ -103,7 +105,7 @@ highAt StopDetect l = false
 abbrev pub conditionHigh : Core → Bool
 conditionHigh s = highAt (s .condition) (s .lines .filtered)
 
--- what follows once they are: SDA falls for a start, or a stop waits to release it
+-- what follows once they are: SDA falls for a start, or a stop waits to release it (550, 554)
 abbrev pub raisedAt : Condition → Core → Core
 raisedAt NoCondition s = s
 raisedAt StartRelease s = s

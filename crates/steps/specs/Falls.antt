@@ -1,6 +1,6 @@
--- Definitions: what a falling clock brings (iic.rs, `falling`).
+-- Definitions: what a falling clock brings (`falling`; numbers in brackets are lines of iic.rs).
 use Rattle.bus.specs.Bits.{has}
-use Rattle.frames.specs.Parts.{dataLevel, isData, isDone, starved, turned}
+use Rattle.frames.specs.Parts.{dataLevel, directed, isData, isDone, starved}
 use Rattle.frames.specs.declared.Frame.{Frame}
 use Rattle.frames.specs.declared.Framing.{Framing}
 use Rattle.frames.specs.declared.Framing.the-variants.{InFrame, NoFrame}
@@ -14,9 +14,7 @@ use Rattle.steps.specs.declared.Hold.the-variants.{Receive, Transmit}
 use Rattle.time.specs.declared.Time.{Time}
 use mathlib.Core.Bool.{Bool, _&&_, _||_, cond, false, not, true}
 
--- ## `falling`
-
--- a frame that is through ends, and SDA is released
+-- a frame that is through ends, and SDA is released (701)
 abbrev pub endFrame : Frame → Core → Core
 endFrame f s =
     setFrame NoFrame (driveSda true
@@ -29,19 +27,20 @@ endIn (InFrame f) s = cond (isDone (f .phase)) (endFrame f s) s
 unfoldable pub endFrameOf : Core → Core
 endFrameOf s = endIn (s .frame) s
 
--- the direction follows ICCR1 from the next bit on
+-- the direction follows ICCR1 from the next bit on (712)
 abbrev pub followIn : Framing → Core → Core
 followIn NoFrame s = s
 followIn (InFrame f) s =
-    cond (isData (f .phase)) (setFrame (InFrame (turned (transmits s && (master s || not (f .address))) f)) s) s
+    cond (isData (f .phase)) (setFrame (InFrame (directed (transmits s) (master s) f)) s) s
 
 unfoldable pub followOf : Core → Core
 followOf s = followIn (s .frame) s
 
--- no byte to send: SCL is held, or in synchronous mode a master's clock stops
+-- no byte to send: SCL is held, or in synchronous mode a master's clock stops (731)
 unfoldable pub holdTransmitOf : Core → Core
 holdTransmitOf s = cond (synchronous s && master s) (unclocked s) (setHoldOf Transmit s)
 
+-- SDA shows the next bit (729)
 abbrev pub fallDataIn : Framing → Core → Core
 fallDataIn NoFrame s = s
 fallDataIn (InFrame f) s = cond (starved f) (holdTransmitOf s) (driveSda (dataLevel f) s)
@@ -49,25 +48,26 @@ fallDataIn (InFrame f) s = cond (starved f) (holdTransmitOf s) (driveSda (dataLe
 unfoldable pub fallDataOf : Core → Core
 fallDataOf s = fallDataIn (s .frame) s
 
--- the byte before is still in ICDRR
+-- a receiver that is selected or master holds SCL while RDRF is set, unless ICDRR was read at the very time of the eighth
+-- fall before (742)
 unfoldable pub holdReceiveOf : Frame → Core → Core
 holdReceiveOf f s =
     cond (not (f .transmit) && (s .flags .selected || master s) && has (s .registers .status) RDRF && not (s .flags .«stale_release»))
     (setHoldOf Receive s) s
 
--- the acknowledge level of a receiver that is meant
+-- a receiver that is selected or master shows ACKBT, any other releases SDA (749)
 unfoldable pub acknowledgeOf : Frame → Core → Core
 acknowledgeOf f s =
     driveSda (f .transmit || not (s .flags .selected) && not (master s) || has (s .registers .enable) ACKBT) (setStaleRelease false s)
 
--- a master without a frame keeps SCL low
-unfoldable pub fallIdleOf : Core → Core
-fallIdleOf s = cond (master s) (unclocked (driveScl false s)) s
-
--- the eighth fall
+-- the eighth fall (740)
 unfoldable pub fallTakenOf : Frame → Time → Core → Core
 fallTakenOf f now s = acknowledgeOf f (holdReceiveOf f (setEighthFall (FellAt now) s))
 
--- ICMR's WAIT lengthens a master's wait
+-- ICMR's WAIT lengthens a master's wait (752)
 abbrev pub insertsWait : Core → Bool
 insertsWait s = master s && has (s .registers .mode) WAIT && not (held s)
+
+-- a master without a frame keeps SCL low (718)
+unfoldable pub fallIdleOf : Core → Core
+fallIdleOf s = cond (master s) (unclocked (driveScl false s)) s

@@ -1,18 +1,18 @@
--- Definitions: the noise filter, and the levels as given (document 01, Registers and steps; iic.rs, `input_pins`, `advance`,
--- `schedule_filter`).
-use Rattle.bus.specs.Bus.{sameLevels}
+-- Definitions: the noise filter, and the levels as given (document 01, Registers and steps; numbers in brackets are lines of iic.rs).
+use Rattle.bus.specs.Bus.{levels, sameLevels}
 use Rattle.bus.specs.declared.Levels.{Levels}
 use Rattle.steps.specs.Setters.{setFiltered, setLatch}
-use Rattle.steps.specs.State.{awake, levels}
+use Rattle.steps.specs.State.{awake}
 use Rattle.steps.specs.declared.Core.{Core}
 use mathlib.Core.Bool.{Bool, Bool·beq, _&&_, _||_, cond, not}
 
 -- ## Firing
 
--- document 01: a level passes the filter when two successive system clocks see it
+-- document 01: a level passes the filter when two successive system clocks see it (476)
 abbrev pub passed : Bool → Bool → Bool → Bool
 passed raw latch filtered = cond (Bool·beq raw latch) raw filtered
 
+-- both levels, and what the next clock compares with (475)
 unfoldable pub filterPassOf : Core → Core
 filterPassOf s =
     setLatch (s .lines .raw) (setFiltered (levels
@@ -21,10 +21,10 @@ filterPassOf s =
 
 -- ## Levels
 
--- whether the change reaches the peripheral beyond the levels as given
+-- the answer of `input_pins`: the levels are new, the peripheral is enabled and the gate is on (437, 443)
 abbrev pub observes : Core → Levels → Bool
 observes s given = not (sameLevels (s .lines .raw) given) && awake s
 
--- a level is still on its way through the filter
+-- a level is still on its way through the filter (420)
 abbrev pub unsettled : Core → Bool
 unsettled s = not (sameLevels (s .lines .raw) (s .lines .latch)) || not (sameLevels (s .lines .latch) (s .lines .filtered))

@@ -6,5 +6,6 @@ pub mod Conditions
 pub mod Falls
 pub mod Ready
 pub mod Access
+pub mod Inside
 pub mod Filter
 pub mod Checks

@@ -1,4 +1,4 @@
--- Definitions: the core with one part set anew, one setter for each field that it has of the Rust's (iic.rs, `struct Iic`) and for each group of them.
+-- Definitions: the core with one part set anew, one setter for each field that it has of the Rust's (iic.rs 96) and for each group of them.
 use Prim.Native.Nat.{ℕ}
 use mathlib.Core.Bool.{Bool}
 use Rattle.bus.specs.declared.Levels.{Levels}

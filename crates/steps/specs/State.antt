@@ -1,11 +1,12 @@
--- Definitions: the default, the tests on a core and its parts, and the small changes that many steps share (iic.rs, `Default`, `stop_shifter`).
-use Prim.Native.Nat.{_-_, ℕ}
-use Rattle.bus.specs.Bits.{has}
-use Rattle.bus.specs.declared.Levels.{Levels}
+-- Definitions: the default, the tests on a core and its parts, and the small changes that many steps share. Numbers in brackets are lines of
+-- iic.rs.
+use Prim.Native.Nat.{ℕ}
+use Rattle.bus.specs.Bits.{has, without}
+use Rattle.bus.specs.Bus.{levels}
 use Rattle.frames.specs.declared.Framing.{Framing}
 use Rattle.frames.specs.declared.Framing.the-variants.{InFrame, NoFrame}
 use Rattle.steps.specs.Bits.{FS, ICE, MST, TRS}
-use Rattle.steps.specs.Setters.{setClockWait, setCommand, setCondition, setControl, setDrive, setFrame, setHold, setMonitorWait, setReceiveEnabled, setReceiveStopped, setStatus, setSynchronizedHold}
+use Rattle.steps.specs.Setters.{setClockWait, setCommand, setCondition, setControl, setDrive, setFrame, setHold, setMonitorWait, setReceiveEnabled, setReceiveStopped, setSeen, setStatus, setSynchronizedHold}
 use Rattle.steps.specs.declared.Command.{Command}
 use Rattle.steps.specs.declared.Command.the-variants.{Commanded, NoCommand}
 use Rattle.steps.specs.declared.Condition.{Condition}
@@ -17,13 +18,10 @@ use Rattle.steps.specs.declared.EighthFall.the-variants.{NoFall}
 use Rattle.steps.specs.declared.Hold.{Hold}
 use Rattle.steps.specs.declared.Hold.the-variants.{NoHold, Receive, Transmit}
 use Rattle.waits.specs.declared.MaybeHalf.the-variants.{NoHalf}
-use lib.Bits.{bitAnd, bitOr}
+use lib.Bits.{bitOr}
 use mathlib.Core.Bool.{Bool, _&&_, false, true}
 
-abbrev pub levels : Bool → Bool → Levels
-levels c d = record { scl = c; sda = d }
-
--- ## iic.rs, `Default`
+-- ## `Default` (131)
 
 abbrev pub defaultRegisters : Registers
 defaultRegisters = record { control = 0; mode = 0; count = 0; enable = 0; status = 0; seen = 0; address = 0; tdr = 0xff; rdr = 0xff }
@@ -55,7 +53,7 @@ defaultCore = record {
   «monitor_wait» = NoHalf;
 }
 
--- ## Tests on the registers (iic.rs, `enabled`, `master`, `transmit`, `synchronous`)
+-- ## Tests on the registers: `enabled`, `master`, `transmit`, `synchronous` (168 to 179)
 
 abbrev pub enabled : Core → Bool
 enabled s = has (s .registers .control) ICE
@@ -70,7 +68,7 @@ transmits s = has (s .registers .control) TRS
 abbrev pub synchronous : Core → Bool
 synchronous s = has (s .registers .address) FS
 
--- enabled and clocked (iic.rs, `observes_pins`)
+-- enabled, and the gate is on (428, 446, 464)
 abbrev pub awake : Core → Bool
 awake s = s .flags .gate && enabled s
 
@@ -111,6 +109,7 @@ isHold Receive = true
 abbrev pub held : Core → Bool
 held s = isHold (s .hold)
 
+-- SCL is held until there is a byte to send (357)
 abbrev pub isTransmitHold : Hold → Bool
 isTransmitHold NoHold = false
 isTransmitHold Transmit = true
@@ -122,9 +121,13 @@ isTransmitHold Receive = false
 abbrev pub raise : ℕ → Core → Core
 raise m s = setStatus (bitOr (s .registers .status) m) s
 
+-- the flags of the mask m are cleared in ICSR and in `seen` (231, 355)
+abbrev pub clearFlags : ℕ → Core → Core
+clearFlags m s = setStatus (without (s .registers .status) m) (setSeen (without (s .registers .seen) m) s)
+
 -- the bits of the mask m of ICCR1 are cleared
 abbrev pub clearControl : ℕ → Core → Core
-clearControl m s = setControl (bitAnd (s .registers .control) (0xff - m)) s
+clearControl m s = setControl (without (s .registers .control) m) s
 
 abbrev pub driveScl : Bool → Core → Core
 driveScl b s = setDrive (levels b (s .lines .drive .sda)) s
@@ -136,7 +139,7 @@ driveSda b s = setDrive (levels (s .lines .drive .scl) b) s
 abbrev pub unclocked : Core → Core
 unclocked s = setClockWait NoHalf (setMonitorWait NoHalf s)
 
--- iic.rs, `stop_shifter`: all that is under way stops, and both lines are released
+-- `stop_shifter` but for the setup's wait: all that is under way stops, and both lines are released (367)
 unfoldable pub stopCoreOf : Core → Core
 stopCoreOf s =
     setDrive (levels true true) (setFrame NoFrame (unclocked (setCondition NoCondition

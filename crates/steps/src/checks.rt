@@ -5,9 +5,14 @@ use super::Core;
 use super::EighthFall;
 use super::bits::AL;
 use super::bits::FS;
+use super::bits::MLS;
 use super::bits::NACKF;
 use super::bits::NAKIE;
+use super::bits::RDRF;
 use super::bits::STOP;
+use super::bits::TDRE;
+use super::bits::TEND;
+use super::bits::WAIT;
 use time::Time;
 
 impl EighthFall {
@@ -23,11 +28,11 @@ impl EighthFall {
 }
 
 impl Core {
-    // The count is at most 7, and the mode has no bits outside c0.
+    // The count is at most 7, and the mode has no bits but MLS and WAIT.
     pub fn ranges_hold(self) -> bool
         ensures { λ r. ⌜ r ≡ rangesHold self ⌝ }
     {
-        (self.registers.count < 8) & (self.registers.mode & 0x3f == 0)
+        (self.registers.count < 8) & (self.registers.mode & !(MLS | WAIT) == 0)
     }
 
     // A frame has as many bits to go as its phase allows.
@@ -46,7 +51,7 @@ impl Core {
         let sync = self.registers.address & FS != 0;
         let shown = self.registers.status & enable;
         let mask = AL | bus::flag(!sync, NACKF);
-        (shown & 0xe0 != 0)
+        (shown & (TDRE | TEND | RDRF) != 0)
             | (!sync & (shown & STOP != 0))
             | ((enable & NAKIE != 0) & (self.registers.status & mask != 0))
     }

@@ -45,9 +45,9 @@ impl Core {
         };
         let phase = f.phase;
         if phase.is_data() {
-            let sends = (self.registers.control & TRS != 0)
-                & ((self.registers.control & MST != 0) | !f.address);
-            self = self.with_frame(Framing::InFrame(f.turned(sends)));
+            let transmit = self.registers.control & TRS != 0;
+            let master = self.registers.control & MST != 0;
+            self = self.with_frame(Framing::InFrame(f.directed(transmit, master)));
         }
         self
     }
@@ -73,7 +73,7 @@ impl Core {
         self
     }
 
-    // The byte before is still in ICDRR.
+    // A receiver that is meant holds SCL while the byte before is still in ICDRR.
     fn hold_receive(mut self, f: Frame) -> Core
         ensures { λ r. ⌜ r ≡ holdReceiveOf f self ⌝ }
     {

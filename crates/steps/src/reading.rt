@@ -5,12 +5,15 @@ use super::Core;
 use super::EighthFall;
 use super::Register;
 use super::bits::BBSY;
+use super::bits::BCWP;
 use super::bits::IICRST;
 use super::bits::MST;
 use super::bits::RCVD;
 use super::bits::RDRF;
 use super::bits::SCLO;
+use super::bits::SCP;
 use super::bits::SDAO;
+use super::bits::SDAOP;
 use time::Time;
 
 impl Register {
@@ -44,16 +47,18 @@ impl EighthFall {
 }
 
 impl Core {
+    // SCP, SDAOP and the reserved bits 0 and 2 read 1.
     fn shown_control(self) -> u8
         ensures { λ r. ⌜ r ≡ shownControl self ⌝ }
     {
         bus::flag(self.flags.busy, BBSY)
-            | 0x55
+            | (SCP | SDAOP | 5)
             | bus::flag(self.lines.drive.sda, SDAO)
             | bus::flag(self.lines.drive.scl, SCLO)
             | bus::flag(self.flags.reset, IICRST)
     }
 
+    // In ICMR, BCWP and the reserved bits 4 and 5 read 1.
     pub fn peek_at(self, register: Register) -> u8
         ensures { λ r. ⌜ r ≡ peekAt register self ⌝ }
     {
@@ -62,7 +67,7 @@ impl Core {
             Register::ICCR1 => self.registers.control,
             Register::ICCR2 => self.shown_control(),
             Register::ICMR => {
-                self.registers.mode | 0x38 | frame.shown_count(self.registers.count)
+                self.registers.mode | (BCWP | 0x30) | frame.shown_count(self.registers.count)
             }
             Register::ICIER => self.registers.enable,
             Register::ICSR => self.registers.status,

@@ -1,6 +1,6 @@
 // The shifter, from a frame's beginning to its completion.
 ghost use mathlib.Core.Path.{_≡_};
-ghost use Rattle.steps.specs.Shift.{acknowledgedOf, addressedOf, arbitrationLostOf, beginFrameOf, completeFrameOf, endSynchronousOf, finishedOf, fresh, lastBitOf, loadTransmitOf, receivedOf, receives, risingDataOf, risingOf, selectOf, setHoldOf, whenLostOf};
+ghost use Rattle.steps.specs.Shift.{acknowledgedOf, addressedOf, arbitrationLostOf, beginFrameOf, completeFrameOf, endSynchronousOf, finishedOf, lastBitOf, loadTransmitOf, receivedOf, risingDataOf, risingOf, selectOf, setHoldOf, whenLostOf};
 use super::Command;
 use super::Condition;
 use super::Core;
@@ -50,10 +50,9 @@ impl Core {
         let master = self.registers.control & MST != 0;
         let sends = (self.registers.control & TRS != 0)
             & (master | (self.flags.selected & !address) | (self.registers.address & FS != 0));
-        let whole = address | (self.registers.count == 0);
         let fresh = Frame {
             shift: 0,
-            remaining: bits_of(whole, self.registers.count),
+            remaining: bits_of(address, self.registers.count),
             phase: Phase::Data,
             address,
             transmit: sends,
@@ -70,7 +69,7 @@ impl Core {
     {
         let status = self.registers.status | AL;
         self.registers.status = status;
-        let control = self.registers.control & !0x30;
+        let control = self.registers.control & !(MST | TRS);
         self.registers.control = control;
         self.lines.drive.scl = true;
         self.lines.drive.sda = true;
@@ -108,8 +107,8 @@ impl Core {
         }
         let enable = (self.registers.enable & !ACKBR) | bus::flag(sda, ACKBR);
         self.registers.enable = enable;
-        let refused = !bus::is_acknowledge(sda) & (enable & ACKE != 0);
-        let status = self.registers.status | bus::flag(refused, NACKF);
+        let nack = !bus::is_acknowledge(sda) & (enable & ACKE != 0);
+        let status = self.registers.status | bus::flag(nack, NACKF);
         self.registers.status = status;
         self
     }

@@ -88,7 +88,7 @@ impl Core {
         Core { frame, ..self }
     }
 
-    pub fn with_condition(self, condition: Condition) -> Core
+    pub(crate) fn with_condition(self, condition: Condition) -> Core
         ensures { λ r. ⌜ r ≡ setCondition condition self ⌝ }
     {
         Core { condition, ..self }
@@ -176,7 +176,7 @@ impl Core {
         self.registers.address & FS != 0
     }
 
-    // Enabled and clocked.
+    // Enabled, and the gate is on.
     pub fn awake(self) -> bool
         ensures { λ r. ⌜ r ≡ awake self ⌝ }
     {

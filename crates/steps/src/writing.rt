@@ -1,6 +1,7 @@
 // The registers as the host writes them.
 ghost use mathlib.Core.Path.{_≡_};
-ghost use Rattle.steps.specs.Access.{enterResetOf, giveDataOf, pullSdaOf, redirected, stopReceiveOf, takeControlOf, takesCommand, writeModeOf, writePlain};
+ghost use Rattle.steps.specs.Access.{enterResetOf, giveDataOf, pullSdaOf, redirected, stopReceiveOf, takeControlOf, takesCommand, writeModeOf};
+ghost use Rattle.steps.specs.Inside.{writePlain};
 use super::Core;
 use super::Register;
 use super::bits::ACKBR;
@@ -19,6 +20,7 @@ use super::bits::SDAOP;
 use super::bits::TDRE;
 use super::bits::TEND;
 use super::bits::TRS;
+use super::bits::WAIT;
 use frames::mirror::ordered;
 
 impl Core {
@@ -39,7 +41,7 @@ impl Core {
     pub fn take_control(mut self, value: u8) -> Core
         ensures { λ r. ⌜ r ≡ takeControlOf value self ⌝ }
     {
-        let same = self.registers.control & 0x30 == value & 0x30;
+        let same = self.registers.control & (MST | TRS) == value & (MST | TRS);
         let comes = !(self.registers.control & TRS != 0) & (value & TRS != 0);
         self.registers.control = value;
         self = self.raise(bus::flag(comes, TDRE));
@@ -105,7 +107,7 @@ impl Core {
         ensures { λ r. ⌜ r ≡ writeModeOf value self ⌝ }
     {
         let protected = value & BCWP != 0;
-        let mode = value & 0xc0;
+        let mode = value & (MLS | WAIT);
         self.registers.mode = mode;
         if protected {
             return self;
@@ -117,7 +119,7 @@ impl Core {
     }
 
     // The registers whose write alone starts no wait: in ICIER ACKBR is read only; in ICSR flags both in `seen` and written 0 are
-    // cleared; synchronous mode, in SAR, knows no busy bus.
+    // cleared; in synchronous mode, by SAR, BBSY is 0.
     pub fn write_plain(mut self, register: Register, value: u8) -> Core
         ensures { λ r. ⌜ r ≡ writePlain register value self ⌝ }
     {

@@ -1,4 +1,4 @@
--- Definitions: how waits pause, resume and end (document 01, `advance`, and refusals 11 and 12; iic.rs, `set_gate`, `deadline`, `validate`).
+-- Definitions: how waits pause, resume and end (document 01, `advance`, and refusals 11 and 12; numbers in brackets are lines of iic.rs).
 use Prim.Native.Nat.{ℕ, _-_, _^_}
 use mathlib.Core.Bool.{Bool, true, false, cond}
 use lib.Dec.{eqb, ltb}
@@ -32,20 +32,23 @@ abbrev pub isHalf : MaybeHalf → Bool
 isHalf NoHalf = false
 isHalf (Half w) = true
 
--- ## Pausing (false) and resuming (true)
+-- ## `set_gate`: waits resume where the gate goes on (true), and pause where it goes off (false)
 
+-- the clock's and the monitor's (389)
 abbrev pub turnHalf : Bool → Time → Clocks → HalfWait → NewHalf
 turnHalf gate now k w = cond gate (halfResume w now k) (halfPause w now k)
 
+-- the wait, or the number: a refused pause or resume leaves the wait as it was
 abbrev pub newWait : Waited → NewWait
 newWait w = cond (eqb (w .refusal) 0) (wait.Made (w .wait)) (wait.Refused (w .refusal))
 
+-- the filter's and the setup's (404)
 abbrev pub turnWait : Bool → Time → Clocks → ClockWait → NewWait
 turnWait gate now k w = newWait (cond gate (waitResume w now k) (waitPause w now k))
 
 -- ## Ending
 
--- the time at which a wait ends, none for an absent one
+-- the time at which a wait ends, none for an absent one (450 to 457, 467 to 502)
 unfoldable pub waitEnd : MaybeWait → Clocks → Deadline
 waitEnd NoWait k = deadline.Never
 waitEnd (Waiting w) k = waitDeadline w k
@@ -54,18 +57,19 @@ unfoldable pub halfEnd : MaybeHalf → Clocks → Deadline
 halfEnd NoHalf k = deadline.Never
 halfEnd (Half w) k = halfDeadline w k
 
--- a wait fires only if its time equals now; a refused time is refused
+-- document 01: a wait fires only if its time equals now; a refused time is refused (470, 487, 493, 502)
 unfoldable pub dueOf : Deadline → Time → Due
 dueOf deadline.Never now = due.NotNow
 dueOf (deadline.At t) now = cond (sameTime t now) due.Now due.NotNow
 dueOf (deadline.Refused n) now = due.Refused n
 
+-- the earlier of a time and another, if there is one
 abbrev pub soonerThan : Time → Deadline → Deadline
 soonerThan t deadline.Never = deadline.At t
 soonerThan t (deadline.At u) = cond (earlier u t) (deadline.At u) (deadline.At t)
 soonerThan t (deadline.Refused n) = deadline.Refused n
 
--- the earlier of two times, refused at the first that is refused
+-- the earlier of two times, refused at the first that is refused (449 to 461)
 unfoldable pub sooner : Deadline → Deadline → Deadline
 sooner deadline.Never d = d
 sooner (deadline.At t) d = soonerThan t d
@@ -73,12 +77,12 @@ sooner (deadline.Refused n) d = deadline.Refused n
 
 -- ## For `validate`
 
--- document 01, 11: a wait's tap
+-- document 01, 11: a wait's tap (911)
 abbrev pub tapRefusal : MaybeWait → ℕ
 tapRefusal NoWait = 0
 tapRefusal (Waiting w) = waitValidate w
 
--- document 01, 12: a half count within 1023 of the top
+-- document 01, refused 12 where this doesn't hold: 1024 more still fit 64 bits (915)
 abbrev pub shortHalf : MaybeHalf → Bool
 shortHalf NoHalf = true
 shortHalf (Half w) = ltb (w .count) (2 ^ 64 - 1024)

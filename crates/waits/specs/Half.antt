@@ -1,4 +1,5 @@
--- Definitions: waits of half clocks (iic.rs, `HalfWait`). Sums past 64 bits are refusal 7, a time that went back is 8.
+-- Definitions: waits of half clocks (`HalfWait`; numbers in brackets are lines of iic.rs). Sums past 64 bits are refusal 7, a time that went
+-- back is 8.
 use Prim.Native.Nat.{ℕ, _+_, _-_}
 use mathlib.Core.Bool.{Bool, true, false, cond}
 use lib.Dec.{leb}
@@ -20,16 +21,16 @@ use Rattle.waits.specs.declared.HalfWait.{HalfWait}
 use Rattle.waits.specs.declared.NewHalf.{NewHalf}
 use Rattle.waits.specs.declared.NewHalf.the-variants as half
 
--- `checked_sub`, or refusal 8
+-- `checked_sub`, or refusal 8 (43)
 unfoldable pub differenceOf : ℕ → ℕ → Count
 differenceOf a b = cond (leb b a) (count.Of (a - b)) (count.Refused 8)
 
--- a count and so many more
+-- a count and so many more (28)
 abbrev pub further : Count → ℕ → Count
 further (count.Of t) n = fits (t + n)
 further (count.Refused e) n = count.Refused e
 
--- what is left of n at a count
+-- what is left of n at a count (41)
 abbrev pub leftOf : ℕ → Count → Count
 leftOf n (count.Of t) = differenceOf n t
 leftOf n (count.Refused e) = count.Refused e
@@ -42,23 +43,24 @@ abbrev pub madeHalf : Bool → Count → NewHalf
 madeHalf p (count.Of n) = half.Made (halfWait p n)
 madeHalf p (count.Refused e) = half.Refused e
 
--- `after`: so many half clocks from now on
+-- `after`: so many half clocks from now on (24)
 unfoldable pub halfAfter : Time → ℕ → Clocks → NewHalf
 halfAfter now n k = madeHalf false (further (halfTicks k now) n)
 
+-- none while the clock is stopped (34)
 abbrev pub whileAvailable : Truth → Moment → Deadline
 whileAvailable (truth.Is b) m = cond b (dated m) deadline.Never
 whileAvailable (truth.Refused e) m = deadline.Refused e
 
--- `deadline`: never while paused or while the system clock is stopped
+-- `deadline`: none while paused or while the system clock is stopped (33)
 unfoldable pub halfDeadline : HalfWait → Clocks → Deadline
 halfDeadline w k =
     cond (w .paused) deadline.Never (whileAvailable (availableOf k (systemTap 1)) (halfEdge k (w .count)))
 
--- `pause`
+-- `pause`: what is left is kept; a paused wait stays as it is (39)
 unfoldable pub halfPause : HalfWait → Time → Clocks → NewHalf
 halfPause w now k = cond (w .paused) (half.Made w) (madeHalf true (leftOf (w .count) (halfTicks k now)))
 
--- `resume`
+-- `resume`: what is left, from now on; a running wait stays as it is (49)
 unfoldable pub halfResume : HalfWait → Time → Clocks → NewHalf
 halfResume w now k = cond (w .paused) (halfAfter now (w .count) k) (half.Made w)

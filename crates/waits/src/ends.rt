@@ -137,7 +137,7 @@ impl MaybeHalf {
     {
         match self {
             MaybeHalf::NoHalf => true,
-            MaybeHalf::Half(w) => w.count < 18446744073709550592,
+            MaybeHalf::Half(w) => w.count < 0xffff_ffff_ffff_fc00,
         }
     }
 }

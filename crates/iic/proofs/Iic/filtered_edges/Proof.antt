@@ -12,8 +12,8 @@ returns : tie.Need-returns
 unfolding filteredEdgesOf
 returns c = simp (c .fine .ensures, c .before .if1 .taken, ← c .before .before .bus-edge .ensures)
 
-stretched-requires : tie.Need-stretched-requires
-stretched-requires c κs = tt
+stretch-ends-requires : tie.Need-stretch-ends-requires
+stretch-ends-requires c κs = tt
 
 condition-step-requires : tie.Need-condition-step-requires
 condition-step-requires c κs = tt
@@ -23,7 +23,7 @@ scl-edge-requires c κs = tt
 
 returns-2 : tie.Need-returns-2
 unfolding filteredEdgesOf
-returns-2 c = simp (c .scl-edge .ensures, c .before .condition-step .ensures, ← c .before .before .stretched .ensures, c .before .before .before .if1 .left, ← c .before .before .before .before .bus-edge .ensures)
+returns-2 c = simp (c .scl-edge .ensures, c .before .condition-step .ensures, ← c .before .before .stretch-ends .ensures, c .before .before .before .if1 .left, ← c .before .before .before .before .bus-edge .ensures)
 
 pub filtered-edges-spec : {M : Type 1} → statement M
-filtered-edges-spec = tie.close (tie.spec bus-edge-requires fine-requires returns stretched-requires condition-step-requires scl-edge-requires returns-2)
+filtered-edges-spec = tie.close (tie.spec bus-edge-requires fine-requires returns stretch-ends-requires condition-step-requires scl-edge-requires returns-2)

@@ -1,6 +1,6 @@
 use Rattle.iic.proofs.Laws.{guards}
 use Rattle.iic.specs.Calls.{guardOf, inputPinsOf, takePinsOf}
-use Rattle.steps.specs.State.{levels}
+use Rattle.bus.specs.Bus.{levels}
 use Rattle.iic.proofs.Iic.input_pins.Statement.{statement}
 use Rattle.iic.proofs.Iic.input_pins.Tie as tie
 

@@ -1,4 +1,4 @@
-use Rattle.iic.specs.Access.{writeCommandOf, writeResetOf}
+use Rattle.iic.specs.Access.{outOfResetOf, writeCommandOf}
 use Rattle.iic.proofs.Iic.write_command.Statement.{statement}
 use Rattle.iic.proofs.Iic.write_command.Tie as tie
 
@@ -12,14 +12,14 @@ fine-requires : tie.Need-fine-requires
 fine-requires c κs = tt
 
 returns : tie.Need-returns
-unfolding writeResetOf writeCommandOf
+unfolding writeCommandOf outOfResetOf
 returns c = simp (c .fine .ensures, c .before .with-setup-wait .ensures, ← c .before .before .enter-reset .ensures, c .before .before .before .if1 .taken)
 
 fine-requires-2 : tie.Need-fine-requires-2
 fine-requires-2 c κs = tt
 
 returns-2 : tie.Need-returns-2
-unfolding writeResetOf writeCommandOf
+unfolding writeCommandOf outOfResetOf
 returns-2 c = simp (c .fine2 .ensures, c .before .before .if2 .taken, c .before .before .before .if1 .left)
 
 pull-sda-requires : tie.Need-pull-sda-requires
@@ -38,14 +38,14 @@ kick-requires : tie.Need-kick-requires
 kick-requires c κs = tt
 
 returns-3 : tie.Need-returns-3
-unfolding writeResetOf writeCommandOf
+unfolding writeCommandOf outOfResetOf
 returns-3 c = simp (c .kick .ensures, c .before .fine3 .ensures, c .before .before .with-command .ensures, c .before .before .before .if3 .taken, ← c .before .before .before .before .takes-command .ensures, ← c .before .before .before .before .before .pull-sda .ensures, c .before .before .before .before .before .before .if2 .left, c .before .before .before .before .before .before .before .if1 .left)
 
 fine-requires-4 : tie.Need-fine-requires-4
 fine-requires-4 c κs = tt
 
 returns-4 : tie.Need-returns-4
-unfolding writeResetOf writeCommandOf
+unfolding writeCommandOf outOfResetOf
 returns-4 c = simp (c .fine4 .ensures, c .before .if3 .left, ← c .before .before .takes-command .ensures, ← c .before .before .before .pull-sda .ensures, c .before .before .before .before .if2 .left, c .before .before .before .before .before .if1 .left)
 
 pub write-command-spec : {M : Type 1} → statement M

@@ -1,7 +1,7 @@
 use mathlib.Core.Bool.{_&&_}
 use mathlib.Core.Path.{sym}
 use Rattle.iic.proofs.Laws.{both, kept, unnot}
-use Rattle.iic.specs.Answers.{wentOn}
+use Rattle.iic.specs.Inside.{wentOn}
 use Rattle.iic.specs.Kick.{kickOf}
 use Rattle.steps.specs.Ready.{ready}
 use Rattle.iic.proofs.Stepped.kick.Statement.{statement}
