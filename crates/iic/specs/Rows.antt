@@ -1,7 +1,8 @@
--- Laws: the register rows of document 01 that are starred, as one table with one fact. They begin at the default.
-use Prim.Native.Nat.{ℕ}
+-- Laws: the starred rows of document 01, as one table with one fact. Those on registers begin at the default.
+use Prim.Native.Nat.{_+_, _^_, ℕ}
 use Rattle.bus.specs.Bits.{flag}
 use Rattle.clocks.specs.Clocks.{hasZero}
+use Rattle.clocks.specs.Domain.{domainTicks, runningFrom}
 use Rattle.clocks.specs.declared.Clocks.{Clocks}
 use Rattle.frames.specs.Mirror.{mirrorOf, ordered}
 use Rattle.frames.specs.declared.Framing.the-variants.{InFrame}
@@ -19,8 +20,17 @@ use Rattle.steps.specs.Setters.{setAddress, setFrame}
 use Rattle.steps.specs.Shift.{addressedOf, lastBitOf, matchedOf, risingDataOf, risingOf, selectOf, whenLostOf}
 use Rattle.steps.specs.State.{defaultCore, stopCoreOf}
 use Rattle.steps.specs.declared.Core.{Core}
+use Rattle.time.specs.Clock.{afterOf, edgeOf, edgesBeforeOf, zeroIn}
+use Rattle.time.specs.Laws.{edges-before-is}
+use Rattle.time.specs.Time.{momentOf, nextTime, timeOf}
+use Rattle.time.specs.declared.Clock.{Clock}
+use Rattle.time.specs.declared.Count.the-variants as count
+use Rattle.time.specs.declared.Count.{Count}
+use Rattle.time.specs.declared.Moment.the-variants as moment
+use Rattle.time.specs.declared.Moment.{Moment}
 use Rattle.time.specs.declared.Time.{Time}
 use Rattle.waits.specs.Rates.{periodOf, rate}
+use lib.Dec.{lit<}
 use mathlib.Core.Bool.{Bool, false, true}
 use mathlib.Core.List.{List, [], _∷_, map}
 use mathlib.Core.Path.{_≡_, refl, subst, sym}
@@ -37,6 +47,27 @@ row n m = record { shown = n; expected = m }
 abbrev drives : Pins → ℕ
 drives NoPins = 0
 drives (Driven l) = 1
+
+-- a time in units of 2^-64 s, and what no time is for a refusal
+abbrev units : Moment → ℕ
+units (moment.At t) = timeOf t
+units (moment.Refused n) = 2 ^ 128 + n
+
+-- a count, and what no count is for a refusal
+abbrev number : Count → ℕ
+number (count.Of n) = n
+number (count.Refused n) = 2 ^ 64 + n
+
+abbrev at : ℕ → Time
+at f = record { seconds = 0; fraction = f }
+
+-- frequency 3, start 0
+abbrev third : Clock
+third = record { start = at 0; numerator = 3; denominator = 1 }
+
+-- the count of a running domain
+abbrev ticksAt : ℕ → Count
+ticksAt f = domainTicks (runningFrom (at 0) third) (at f)
 
 -- seven bits of an address byte are in
 abbrev addressed : Core
@@ -61,6 +92,10 @@ rowsOf wrote saw =
     ∷ row (peekOf (wrote 6 0x01 (wrote 2 0x80 defaultIic)) 6) 0x80
     -- half clock: 0 gives 28, 7 128, 8 56, f 256
     ∷ row (periodOf 0x0) 28 ∷ row (periodOf 0x7) 128 ∷ row (periodOf 0x8) 56 ∷ row (periodOf 0xf) 256
+    -- frequency 3, start 0: edge 1 at fraction 5555555555555555, edge 3 at 1 s
+    ∷ row (units (afterOf third 1)) 0x5555555555555555 ∷ row (units (afterOf third 3)) (2 ^ 64)
+    -- a running domain's count at 5555555555555554 is 0, one later 1
+    ∷ row (number (ticksAt 0x5555555555555554)) 0 ∷ row (number (ticksAt 0x5555555555555555)) 1
     -- SAR a0, address byte a1: selected, ICCR1 bit 4 set
     ∷ row (flag (risingOf true addressed .flags .selected) 1) 1
     ∷ row (risingOf true addressed .registers .control) 0x10
@@ -81,5 +116,7 @@ module _ (now : Time) (k : Clocks) where
 
   -- every row shows what document 01 has, over any clock set without a zero, at any time
   pub rows-hold : hasZero k ≡ false → AllHold rows
-  unfolding rowsOf registerAt peekAt readAt writeAt controlSet redirected takeControlOf writeControlOf writeModeOf writeEnableOf writeStatusOf giveDataOf sendOnOf writeDataOf guardOf peekOf readOf writeOf kickOf mirrorOf ordered risingOf risingDataOf whenLostOf lastBitOf addressedOf matchedOf selectOf defaultCore defaultIic stopCoreOf stopShifterOf rate periodOf
-  rows-hold free = subst (λ (z : Bool). AllHold (rowsBy z)) (sym free) refl
+  unfolding rowsOf registerAt peekAt readAt writeAt controlSet redirected takeControlOf writeControlOf writeModeOf writeEnableOf writeStatusOf giveDataOf sendOnOf writeDataOf guardOf peekOf readOf writeOf kickOf mirrorOf ordered risingOf risingDataOf whenLostOf lastBitOf addressedOf matchedOf selectOf defaultCore defaultIic stopCoreOf stopShifterOf rate periodOf afterOf edgeOf momentOf zeroIn domainTicks nextTime edgesBeforeOf
+  rows-hold free =
+      subst (λ (z : Bool). AllHold (rowsBy z)) (sym free)
+      (rw (edges-before-is third 0x5555555555555555 (lit< tt) (lit< tt), edges-before-is third 0x5555555555555556 (lit< tt) (lit< tt)) refl)
