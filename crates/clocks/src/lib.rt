@@ -7,6 +7,7 @@ ghost use Rattle.clocks.specs.Half.{halfTicks, halfEdge};
 
 pub mod counts;
 pub mod domain;
+pub mod later;
 pub mod prescaler;
 pub mod tap;
 pub mod wait;

@@ -1,8 +1,8 @@
--- `clocks::wait::upcoming` meets its contract. Assumes nothing.
-use Rattle.clocks.proofs.wait.upcoming.Statement.{statement}
+-- `clocks::later::upcoming` meets its contract. Assumes nothing.
+use Rattle.clocks.proofs.later.upcoming.Statement.{statement}
 use Rattle.clocks.specs.Wait.{upcoming}
 use borrow.Author.Needs.{needs}
-use Rattle.clocks.proofs.wait.upcoming.Tie as tie
+use Rattle.clocks.proofs.later.upcoming.Tie as tie
 
 checked-add-requires : tie.Need-checked-add-requires
 checked-add-requires c κs = search needs

@@ -1,8 +1,8 @@
--- `clocks::wait::later_target` meets its contract. Assumes nothing.
-use Rattle.clocks.proofs.wait.later_target.Statement.{statement}
+-- `clocks::later::later_target` meets its contract. Assumes nothing.
+use Rattle.clocks.proofs.later.later_target.Statement.{statement}
 use Rattle.clocks.specs.Wait.{laterTarget}
 use borrow.Author.Needs.{needs}
-use Rattle.clocks.proofs.wait.later_target.Tie as tie
+use Rattle.clocks.proofs.later.later_target.Tie as tie
 
 enum-known-sum : tie.Need-enum-known-sum
 enum-known-sum c = search needs

@@ -1,8 +1,8 @@
--- `clocks::wait::later_running` meets its contract. Assumes nothing.
-use Rattle.clocks.proofs.wait.later_running.Statement.{statement}
+-- `clocks::later::later_running` meets its contract. Assumes nothing.
+use Rattle.clocks.proofs.later.later_running.Statement.{statement}
 use Rattle.clocks.specs.Wait.{laterRunning}
 use borrow.Author.Needs.{needs}
-use Rattle.clocks.proofs.wait.later_running.Tie as tie
+use Rattle.clocks.proofs.later.later_running.Tie as tie
 
 available-requires : tie.Need-available-requires
 available-requires c κs = search needs

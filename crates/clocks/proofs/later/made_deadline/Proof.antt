@@ -1,8 +1,8 @@
--- `clocks::wait::made_deadline` meets its contract. Assumes nothing.
-use Rattle.clocks.proofs.wait.made_deadline.Statement.{statement}
+-- `clocks::later::made_deadline` meets its contract. Assumes nothing.
+use Rattle.clocks.proofs.later.made_deadline.Statement.{statement}
 use Rattle.clocks.specs.Wait.{madeDeadline}
 use borrow.Author.Needs.{needs}
-use Rattle.clocks.proofs.wait.made_deadline.Tie as tie
+use Rattle.clocks.proofs.later.made_deadline.Tie as tie
 
 enum-known-wait : tie.Need-enum-known-wait
 enum-known-wait c = search needs
