@@ -3,6 +3,9 @@ use crate::judge::{self, Judge};
 use words::calls::Function;
 use words::layout::{Args, Set};
 
+/// Differences of a function or part that are made smaller and printed; those after them are counted.
+pub const SHOWN: u64 = 3;
+
 /// The smallest set and arguments found, and whether they show the difference by themselves.
 pub fn smallest(function: &Function, set: &Set, args: &Args) -> (Set, Args, bool) {
     let (mut set, mut args) = (*set, *args);

@@ -1,7 +1,7 @@
 //! Whole traces: the port's `play_trace`, its program play and the plain Rust player give the same bytes.
 mod players;
 use crate::options::Options;
-use crate::shrink;
+use crate::shrink::{self, SHOWN};
 use players::{Feeding, Program};
 use std::fs;
 use std::path::Path;
@@ -11,8 +11,6 @@ use traffic::trace;
 
 /// Lines of most traces.
 const LINES: usize = 10_000;
-/// Differences that are printed.
-const SHOWN: u64 = 3;
 /// What a trace is made of, and what it isn't.
 const ALPHABET: &[u8] = b"0123456789abcdef\t\t\t\n\nrwpgvd- A\r";
 
