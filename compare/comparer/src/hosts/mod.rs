@@ -186,8 +186,8 @@ impl Pair<'_> {
     }
 
     /// What holds after each call, refused or not: a state that neither 9 nor 10 meets, and of which `settled` tells
-    /// whether a kick does nothing; after an answered one it does nothing, unless the reset was lifted and no visit came
-    /// since. Wrong ideas are let off this.
+    /// whether a kick does nothing; after an answered one it does nothing, unless the reset was lifted and no visit
+    /// came since. Wrong ideas are let off this.
     fn keeps(&mut self, side: usize, call: Call, args: &Args) -> Result<(), String> {
         let host = &self.sides[side];
         if !self.idea.holds() {
