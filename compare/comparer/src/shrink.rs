@@ -87,3 +87,15 @@ pub fn shorten<T: Clone>(list: &mut Vec<T>, differs: impl Fn(&[T]) -> bool) {
         length = if shorter && length == 1 { 1 } else { length / 2 };
     }
 }
+
+#[cfg(test)]
+mod tests {
+    use super::shorten;
+
+    #[test]
+    fn only_what_shows_the_difference_is_left() {
+        let mut list: Vec<u32> = (0..1000).collect();
+        shorten(&mut list, |part| part.contains(&3) && part.contains(&777) && part.contains(&778));
+        assert_eq!(list, [3, 777, 778]);
+    }
+}
