@@ -71,7 +71,9 @@ impl Comparison {
         let folder = Path::new(env!("CARGO_MANIFEST_DIR")).join("../../examples");
         match examples::read(&folder) {
             Ok(examples) => examples.iter().for_each(|example| self.example(example)),
-            Err(reason) => self.differs(&reason),
+            Err(reason) => {
+                self.differs(&reason);
+            }
         }
     }
 
@@ -79,8 +81,7 @@ impl Comparison {
         self.check(trace, trace.len() * 3);
         self.feed(trace, Feeding::Whole);
         let played = plain_player::play(trace, usize::MAX).bytes;
-        if played != *answers {
-            self.differs(&format!("what stands in examples/{name}.answers"));
+        if played != *answers && self.differs(&format!("what stands in examples/{name}.answers")) {
             print_parting(&played, ("the file", Ok(answers)));
         }
     }
@@ -176,11 +177,7 @@ impl Comparison {
     fn compare(&mut self, who: &str, trace: &[u8], room: usize, port: impl Fn(&[u8]) -> Result<Vec<u8>, String>) {
         let plain = plain_player::play(trace, room);
         self.lines += plain.lines as u64;
-        if port(trace).as_ref() == Ok(&plain.bytes) {
-            return;
-        }
-        self.differs(who);
-        if self.differences > SHOWN {
+        if port(trace).as_ref() == Ok(&plain.bytes) || !self.differs(who) {
             return;
         }
         let mut lines: Vec<&[u8]> = trace.split_inclusive(|byte| *byte == b'\n').collect();
@@ -193,11 +190,14 @@ impl Comparison {
         print_parting(&plain_player::play(&part, room).bytes, ("port", port(&part).as_ref()));
     }
 
-    fn differs(&mut self, what: &str) {
+    /// Counts a difference, and tells whether it is one of those that are shown.
+    fn differs(&mut self, what: &str) -> bool {
         self.differences += 1;
-        if self.differences <= SHOWN {
+        let shown = self.differences <= SHOWN;
+        if shown {
             println!("difference: {what}");
         }
+        shown
     }
 }
 

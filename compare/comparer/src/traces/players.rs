@@ -15,7 +15,7 @@ const UNTOUCHED: u8 = 0xa5;
 pub fn play_trace(trace: &[u8], size: usize) -> Result<Vec<u8>, String> {
     let mut out = vec![UNTOUCHED; size];
     let written = port::player::play(trace, &mut out);
-    let rest = out.get(written..).ok_or(format!("{written} bytes written, and there are {size}"))?;
+    let rest = out.get(written..).ok_or_else(|| format!("{written} bytes written, and there are {size}"))?;
     if let Some(place) = rest.iter().position(|byte| *byte != UNTOUCHED) {
         return Err(format!("{written} bytes written, yet byte {} has changed", written + place));
     }
