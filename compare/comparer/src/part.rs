@@ -3,14 +3,12 @@ use crate::inputs::{self, grid};
 use crate::judge::{self, Judge, Sets};
 use crate::options::Options;
 use crate::report::{self, Partings, Tally};
-use crate::shrink;
+use crate::shrink::{self, SHOWN};
 use std::time::Instant;
 use traffic::random::Random;
 use words::calls::Function;
 use words::layout::{self, Args, Set};
 
-/// Differences of a function that are printed.
-const SHOWN: u64 = 3;
 /// Random calls over one clock set, so that what the Rust remembers of a set is tried too.
 const CALLS_OF_SET: u64 = 32;
 

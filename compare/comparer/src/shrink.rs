@@ -1,7 +1,13 @@
 //! Makes the input of a difference smaller, word by word or piece by piece, as long as the difference stays.
 use crate::judge::{self, Judge};
+use std::time::{Duration, Instant};
 use words::calls::Function;
 use words::layout::{Args, Set};
+
+/// Differences of a function or part that are made smaller and printed; those after them are counted.
+pub const SHOWN: u64 = 3;
+/// How long a list is made shorter.
+const PATIENCE: Duration = Duration::from_secs(20);
 
 /// The smallest set and arguments found, and whether they show the difference by themselves.
 pub fn smallest(function: &Function, set: &Set, args: &Args) -> (Set, Args, bool) {
@@ -61,13 +67,14 @@ fn differs(function: &Function, set: &Set, args: &Args) -> bool {
     !judge.agrees(function, args, expected)
 }
 
-/// Leaves out pieces of a list, long ones first, as long as it shows a difference.
+/// Leaves out pieces of a list, long ones first, as long as it shows a difference and time is left.
 pub fn shorten<T: Clone>(list: &mut Vec<T>, differs: impl Fn(&[T]) -> bool) {
+    let end = Instant::now() + PATIENCE;
     let mut length = list.len() / 2;
     while length > 0 {
         let mut at = 0;
         let mut shorter = false;
-        while at + length <= list.len() {
+        while at + length <= list.len() && Instant::now() < end {
             let rest = [&list[..at], &list[at + length..]].concat();
             if differs(&rest) {
                 *list = rest;
@@ -78,5 +85,17 @@ pub fn shorten<T: Clone>(list: &mut Vec<T>, differs: impl Fn(&[T]) -> bool) {
         }
         // A piece that couldn't go may be able to now.
         length = if shorter && length == 1 { 1 } else { length / 2 };
+    }
+}
+
+#[cfg(test)]
+mod tests {
+    use super::shorten;
+
+    #[test]
+    fn only_what_shows_the_difference_is_left() {
+        let mut list: Vec<u32> = (0..1000).collect();
+        shorten(&mut list, |part| part.contains(&3) && part.contains(&777) && part.contains(&778));
+        assert_eq!(list, [3, 777, 778]);
     }
 }

@@ -54,8 +54,8 @@ impl Player {
         self.iic.deadline(&self.clocks).ok().flatten()
     }
 
-    /// Plays one line, with or without its newline, and puts its answer line behind what is there. The refusals 1, 9 and 10
-    /// can't come: the clocks hold no zero, and no call leads to a state of those kinds.
+    /// Plays one line, with or without its newline, and puts its answer line behind what is there. The refusals 1, 9
+    /// and 10 can't come: the clocks hold no zero, and no call leads to a state of those kinds.
     pub fn play(&mut self, line: &[u8], out: &mut Vec<u8>) {
         self.lines += 1;
         let (refusal, value) = match self.answer(line.strip_suffix(b"\n").unwrap_or(line)) {

@@ -73,7 +73,8 @@ fn malformed_lines() {
 
 #[test]
 fn each_time_is_later() {
-    let trace = "5 0000000000000000 v\n5 0000000000000000 v\n4 ffffffffffffffff v\n6 0000000000000000 x\n5 0000000000000001 v\n";
+    let trace = "5 0000000000000000 v\n5 0000000000000000 v\n4 ffffffffffffffff v\n6 0000000000000000 x\n\
+        5 0000000000000001 v\n";
     assert_eq!(answers(trace), "1 0 - - 00\n2 5 - - 00\n3 5 - - 00\n4 4 - - 00\n5 0 - - 00\n");
     // A line refused 7 counts.
     let late = "0 0000000000000000 g 1\n18446744073709551615 0000000000000000 w 0 a0\n\

@@ -7,7 +7,7 @@ unsafe extern "C" {
 
 /// Plays a trace into a lent buffer, and returns how many bytes were written.
 pub fn play(trace: &[u8], out: &mut [u8]) -> usize {
-    // SAFETY: a proved function without a `requires`, declared with the types that it has. Of an empty slice nothing is read
-    // or written.
+    // SAFETY: a proved function without a `requires`, declared with the types that it has. Of an empty slice nothing is
+    // read or written.
     unsafe { play_trace(trace.as_ptr(), trace.len(), out.as_mut_ptr(), out.len()) }
 }

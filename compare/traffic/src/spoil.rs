@@ -1,8 +1,7 @@
 //! Lines that a player should refuse, as a rule.
 use crate::random::Random;
 use crate::trace;
-use words::iic::Call;
-use words::layout;
+use words::iic::{self, Call};
 
 /// A bad line, without a newline, after one at the time `last`.
 pub fn line(random: &mut Random, last: u128) -> Vec<u8> {
@@ -25,13 +24,10 @@ pub fn line(random: &mut Random, last: u128) -> Vec<u8> {
 fn good(random: &mut Random, now: u128) -> Vec<u8> {
     let calls = [Call::Read, Call::Write, Call::InputPins, Call::SetGate, Call::Advance, Call::Deadline];
     let call = random.pick(&calls);
-    let mut args = [0; layout::ARGS];
-    args[..2].copy_from_slice(&layout::halves(now));
     let most = if matches!(call, Call::InputPins | Call::SetGate) { 2 } else { 256 };
-    args[2] = random.below(most);
-    args[3] = random.below(most);
+    let operands = [random.below(most), random.below(most)];
     let mut line = Vec::new();
-    trace::put((call, args), &mut line);
+    trace::put((call, iic::args(now, operands)), &mut line);
     line
 }
 

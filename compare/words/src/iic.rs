@@ -1,6 +1,6 @@
 //! The peripheral: where the words of its state lie, which is the order of the Rust's fields, and its calls.
 use crate::calls::{Answer, Reference};
-use crate::layout::{Args, WAIT};
+use crate::layout::{self, Args, WAIT};
 
 pub const CONTROL: usize = 0;
 pub const MODE: usize = 1;
@@ -68,6 +68,14 @@ pub enum Call {
     /// An address and a byte of enables; the eight registers from that address on by `peek`, `pins` (0, or 1 and the
     /// levels), `interrupt` and `interrupt_with_enable`.
     Observe,
+}
+
+/// The arguments of a call: its time, then its operands.
+pub fn args(now: u128, operands: [u64; 2]) -> Args {
+    let mut args = [0; layout::ARGS];
+    args[..2].copy_from_slice(&layout::halves(now));
+    args[2..4].copy_from_slice(&operands);
+    args
 }
 
 impl Call {

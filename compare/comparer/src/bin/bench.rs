@@ -1,13 +1,14 @@
-//! Times `Clock::after` and `Clock::edges_before` of the port against the Rust's, on the same inputs in the same run, and
-//! `play_trace` against the plain player on one trace. Of the clocks either side is one call of an `extern "C"` function for an input, which is not inlined. The Rust's clock is made once,
-//! as its users do; the port's is its three values, handed over in each call.
+//! Times `Clock::after` and `Clock::edges_before` of the port against the Rust's, on the same inputs in the same run,
+//! and `play_trace` against the plain player on one trace. Of the clocks either side is one call of an `extern "C"`
+//! function for an input, which is not inlined. The Rust's clock is made once, as its users do; the port's is its three
+//! values, handed over in each call.
 use reference::time::{Clock, Time};
 use std::hint::black_box;
 use std::time::Instant;
 use traffic::random::Random;
 
-/// Inputs, those of a slice, and passes over them all. In a pass the port and the Rust take turns slice by slice, and the
-/// best time of each slice counts: what else the machine does only adds to one.
+/// Inputs, those of a slice, and passes over them all. In a pass the port and the Rust take turns slice by slice, and
+/// the best time of each slice counts: what else the machine does only adds to one.
 const INPUTS: usize = 50_000;
 const SLICE: usize = 500;
 const PASSES: usize = 60;
@@ -93,7 +94,8 @@ fn traces() -> Result<(), String> {
 
 fn clocks() -> Result<(), String> {
     println!(
-        "nanoseconds a call, over {INPUTS} random inputs, the best of {PASSES} passes for each {SLICE} of them; port and Rust take turns"
+        "nanoseconds a call, over {INPUTS} random inputs, the best of {PASSES} passes for each {SLICE} of them; \
+        port and Rust take turns"
     );
     println!("{:<20}{:>14} {:<14}{:>8}{:>8}{:>8}", "function", "Hz", "inputs", "port", "Rust", "ratio");
     let mut random = Random::new(1);

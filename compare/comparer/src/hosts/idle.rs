@@ -1,5 +1,5 @@
 //! Which calls are idle, by document 01 and by ideas that are wrong.
-use super::side::Side;
+use super::side::{Side, WAITS};
 use super::Clocks;
 use words::iic::{self, Call};
 use words::layout::{self, Args};
@@ -28,9 +28,13 @@ pub enum Idea {
     PastARefusal,
 }
 
-const WAITS: [usize; 4] = [iic::FILTER_WAIT, iic::SETUP_WAIT, iic::MONITOR_WAIT, iic::CLOCK_WAIT];
-
 impl Idea {
+    /// Whether a call that is idle by it is so for both hosts and changes nothing, until a call that is left is
+    /// refused: that holds of the document's idea, and with either half of its rule on lifts.
+    pub fn holds(self) -> bool {
+        matches!(self, Idea::Document | Idea::NoLift | Idea::NoFrameStart)
+    }
+
     pub fn idle(self, host: &Side, clocks: &Clocks, call: Call, args: &Args) -> bool {
         let state = &host.words;
         match call {
@@ -57,6 +61,6 @@ impl Idea {
         if due || lifted {
             return false;
         }
-        matches!(self, Idea::NoFrameStart | Idea::NoLiftNorFrameStart) || !host.starts_a_frame(clocks, args)
+        matches!(self, Idea::NoFrameStart | Idea::NoLiftNorFrameStart) || !host.starts_a_frame(clocks, now)
     }
 }

@@ -1,24 +1,23 @@
-//! Demand 3 of document 01, on the unmodified Rust: two hosts whose lists of calls are alike once the idle ones are struck out
-//! see the same answers and states, as long as none of the calls left was refused.
+//! Demand 3 of document 01, on the unmodified Rust: two hosts whose lists of calls are alike once the idle ones are
+//! struck out see the same answers and states, as long as none of the calls left was refused.
 mod idle;
 mod side;
 #[cfg(test)]
 mod tests;
 use crate::options::Options;
 use crate::peripheral;
+use crate::shrink::SHOWN;
 use idle::Idea;
+use reference::mcu::iic::Iic;
 use side::Side;
 use std::time::Instant;
-use traffic::host::Host;
+use traffic::host::{Host, LULL};
 use traffic::random::Random;
 use words::calls::{End, Reference};
 use words::iic::{self, Call};
 use words::layout::{self, Args};
 
 type Clocks = <reference::Bridge as Reference>::Set;
-
-/// Calls without any deadline after which a pair ends.
-const LULL: u64 = 60;
 
 #[derive(Default)]
 struct Tally {
@@ -27,6 +26,9 @@ struct Tally {
     left: u64,
     idle: u64,
     refused_idle: u64,
+    /// Idle calls that change the state, and calls that are idle for one host alone: none, unless the idea is wrong.
+    changing: u64,
+    one_sided: u64,
     ended_by_refusal: u64,
     /// Calls after which a kick would do something, since the reset has just been lifted.
     unsettled: u64,
@@ -46,7 +48,7 @@ pub fn compare(options: &Options) -> u64 {
     let mut tally = Tally::default();
     let mut parted = 0;
     let start = Instant::now();
-    while tally.left + tally.idle < options.count && parted < 3 {
+    while tally.left + tally.idle < options.count && parted < SHOWN {
         if let Err(what) = pair(&mut random, Idea::Document, &mut tally) {
             println!("difference: two hosts: {what}");
             parted += 1;
@@ -55,7 +57,8 @@ pub fn compare(options: &Options) -> u64 {
     let calls = tally.left + tally.idle;
     let seconds = start.elapsed().as_secs_f64();
     println!(
-        "{} pairs of hosts, {} calls left, {} idle, {} of them refused; {} pairs ended by a refusal; {} states just lifted and not settled",
+        "{} pairs of hosts, {} calls left, {} idle, {} of them refused; {} pairs ended by a refusal; \
+        {} states just lifted and not settled",
         tally.pairs, tally.left, tally.idle, tally.refused_idle, tally.ended_by_refusal, tally.unsettled
     );
     println!(
@@ -71,7 +74,8 @@ fn pair(random: &mut Random, idea: Idea, tally: &mut Tally) -> Result<(), String
     let (words, now) = peripheral::new_set(random);
     let clocks = reference::Bridge::set(&words).ok_or("a clock with a zero")?;
     let mut host = Host::new(random, now, peripheral::system(&words));
-    let mut pair = Pair { idea, clocks, sides: [Side::fresh(), Side::fresh()], tally };
+    let sides = [Side::new(Iic::default()), Side::new(Iic::default())];
+    let mut pair = Pair { idea, clocks, sides, tally };
     pair.tally.pairs += 1;
     let most = random.pick(&[40, 400]);
     let mut lull = 0;
@@ -120,31 +124,36 @@ impl Pair<'_> {
             9 => (random.pick(&[Call::Deadline, Call::Validate, Call::Observe]), [random.below(8), random.below(256)]),
             _ => (Call::Read, [random.below(8), 0]),
         };
-        let mut args = [0; layout::ARGS];
-        args[..2].copy_from_slice(&layout::halves(now));
-        args[2..4].copy_from_slice(&operands);
-        (call, args)
+        (call, iic::args(now, operands))
     }
 
-    /// Makes a call of one host, if it is idle there.
+    /// Makes a call of one host, if it is idle there: it changes nothing.
     fn insert(&mut self, side: usize, call: Call, args: &Args) -> Result<bool, String> {
         let host = &mut self.sides[side];
         if !self.idea.idle(host, &self.clocks, call, args) {
             return Ok(false);
         }
-        self.tally.idle += 1;
+        let before = host.words;
         host.call(call, &self.clocks, args);
+        self.tally.idle += 1;
         self.tally.refused_idle += u64::from(host.answer.end != End::Done);
+        if host.words != before {
+            self.tally.changing += 1;
+            if self.idea.holds() {
+                let left = host.words;
+                return Err(format!("{}: idle, yet {before:x?} becomes {left:x?}", shown(call, args)));
+            }
+        }
         self.keeps(side, call, args)?;
         Ok(true)
     }
 
     /// A call of both lists: struck out where it is idle, else compared. Whether the pair goes on.
     fn both(&mut self, call: Call, args: &Args) -> Result<bool, String> {
-        let struck = [self.insert(0, call, args)?, self.insert(1, call, args)?];
-        if struck[0] || struck[1] {
-            // Left in one list alone, the lists aren't alike any more.
-            return Ok(struck[0] == struck[1]);
+        match [self.insert(0, call, args)?, self.insert(1, call, args)?] {
+            [true, true] => return Ok(true),
+            [false, false] => {}
+            struck => return self.one_sided(call, args, struck),
         }
         for side in 0..2 {
             self.tally.left += 1;
@@ -165,17 +174,34 @@ impl Pair<'_> {
         Ok(!refused || self.idea == Idea::PastARefusal)
     }
 
-    /// What holds after each call: no state that 9 or 10 would meet, refused or not; and after an answered one, unless the
-    /// reset was lifted and no visit came since, a state on which a kick does nothing. Wrong ideas are let off this.
+    /// A call that is idle for one host alone: their states, or whether the reset was just lifted, aren't the same any
+    /// more. Under a wrong idea the pair ends, since its lists aren't alike from here on.
+    fn one_sided(&mut self, call: Call, args: &Args, struck: [bool; 2]) -> Result<bool, String> {
+        self.tally.one_sided += 1;
+        if !self.idea.holds() {
+            return Ok(false);
+        }
+        let [one, other] = self.sides.each_ref().map(|side| (side.lifted, side.words));
+        Err(format!("{}: idle for one host alone, {struck:?}: {one:x?} and {other:x?}", shown(call, args)))
+    }
+
+    /// What holds after each call, refused or not: a state that neither 9 nor 10 meets, and of which `settled` tells
+    /// whether a kick does nothing; after an answered one it does nothing, unless the reset was lifted and no visit
+    /// came since. Wrong ideas are let off this.
     fn keeps(&mut self, side: usize, call: Call, args: &Args) -> Result<(), String> {
         let host = &self.sides[side];
-        if self.idea != Idea::Document {
+        if !self.idea.holds() {
             return Ok(());
         }
         if let Some(number) = peripheral::machine::added(Call::Advance, &host.words) {
             return Err(format!("{}: a state that draws {number}, {:x?}", shown(call, args), host.words));
         }
-        if host.answer.end == End::Done && !side::settled(&host.words) {
+        let settled = side::settled(&host.words);
+        if host.rests(&self.clocks, layout::time_at(args, 0)).is_some_and(|rests| rests != settled) {
+            let wrong = if settled { "settled, yet a visit changes it" } else { "not settled, yet a visit keeps it" };
+            return Err(format!("{}: {wrong}, {:x?}", shown(call, args), host.words));
+        }
+        if host.answer.end == End::Done && !settled {
             if !host.lifted {
                 return Err(format!("{}: not settled, {:x?}", shown(call, args), host.words));
             }

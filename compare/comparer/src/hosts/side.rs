@@ -5,6 +5,8 @@ use words::calls::{Answer, End};
 use words::iic::{self, Call, Peripheral, State, NACKF, TDRE};
 use words::layout::{self, Args};
 
+/// Where the waits lie in the state.
+pub const WAITS: [usize; 4] = [iic::FILTER_WAIT, iic::SETUP_WAIT, iic::MONITOR_WAIT, iic::CLOCK_WAIT];
 /// The phase of a frame that is through.
 const DONE: u64 = 2;
 
@@ -18,8 +20,7 @@ pub struct Side {
 }
 
 impl Side {
-    pub fn fresh() -> Self {
-        let iic = Iic::default();
+    pub fn new(iic: Iic) -> Self {
         let mut side = Self { iic, words: [0; iic::STATE], lifted: false, answer: Answer::empty(), fresh: Vec::new() };
         side.look();
         side
@@ -48,18 +49,33 @@ impl Side {
         self.iic.deadline(clocks).ok().flatten().map(|at| at.raw())
     }
 
-    /// Whether a visit leaves a frame that isn't there yet.
-    pub fn starts_a_frame(&self, clocks: &Clocks, args: &Args) -> bool {
-        if self.words[iic::FRAME] != 0 {
-            return false;
-        }
-        let (mut visited, mut answer, mut left) = (self.iic.clone(), Answer::empty(), Vec::new());
-        reference::Bridge::call(Call::Advance, &mut visited, clocks, args, &mut answer);
-        reference::Bridge::words(&visited, &mut left);
-        left[iic::FRAME] != 0
+    /// How a visit at that time ends, and the state that it leaves, tried on a copy.
+    fn visit(&self, clocks: &Clocks, now: u128) -> (End, Vec<u64>) {
+        let (mut copy, mut answer, mut left) = (self.iic.clone(), Answer::empty(), Vec::with_capacity(iic::STATE));
+        reference::Bridge::call(Call::Advance, &mut copy, clocks, &iic::args(now, [0, 0]), &mut answer);
+        reference::Bridge::words(&copy, &mut left);
+        (answer.end, left)
     }
 
-    /// Whether the wait at a place of the state is due. One whose time is refused isn't. The system clock of these hosts runs.
+    /// Whether a visit leaves a frame that isn't there yet.
+    pub fn starts_a_frame(&self, clocks: &Clocks, now: u128) -> bool {
+        self.words[iic::FRAME] == 0 && self.visit(clocks, now).1[iic::FRAME] != 0
+    }
+
+    /// Whether a visit with nothing due, from a time on, is answered and changes nothing: its kick then does nothing.
+    /// None where it doesn't come to the kick, since the time of a wait is refused.
+    pub fn rests(&self, clocks: &Clocks, from: u128) -> Option<bool> {
+        self.iic.deadline(clocks).ok()?;
+        let mut now = from;
+        while WAITS.into_iter().any(|wait| self.due(wait, clocks, now)) {
+            now = now.wrapping_add(1);
+        }
+        let (end, left) = self.visit(clocks, now);
+        Some(end == End::Done && left == self.words)
+    }
+
+    /// Whether the wait at a place of the state is due. One whose time is refused isn't. The system clock of these
+    /// hosts runs.
     pub fn due(&self, place: usize, clocks: &Clocks, now: u128) -> bool {
         use words::calls::{Call, Reference};
         if self.words[place] == 0 {
@@ -80,7 +96,7 @@ impl Side {
     }
 }
 
-/// Whether a kick on the state does nothing, at any time, and isn't refused.
+/// Whether a kick on the state does nothing, at any time, and isn't refused. `Side::rests` tries it on the Rust.
 pub fn settled(state: &State) -> bool {
     let on = |place: usize| state[place] != 0;
     let has = |place: usize, bits: u64| state[place] & bits != 0;

@@ -1,9 +1,10 @@
 //! Whole traces: the port's `play_trace`, its program play and the plain Rust player give the same bytes.
+mod examples;
 mod players;
 use crate::options::Options;
-use crate::shrink;
+use crate::shrink::{self, SHOWN};
+use examples::Example;
 use players::{Feeding, Program};
-use std::fs;
 use std::path::Path;
 use std::time::Instant;
 use traffic::random::Random;
@@ -11,8 +12,8 @@ use traffic::trace;
 
 /// Lines of most traces.
 const LINES: usize = 10_000;
-/// Differences that are printed.
-const SHOWN: u64 = 3;
+/// Bytes of a trace, or of answers, that are printed.
+const PRINTED: usize = 400;
 /// What a trace is made of, and what it isn't.
 const ALPHABET: &[u8] = b"0123456789abcdef\t\t\t\n\nrwpgvd- A\r";
 
@@ -43,7 +44,7 @@ pub fn compare(options: &Options) -> u64 {
     comparison.section("bytes at random", Comparison::noise);
     comparison.section("one byte damaged", Comparison::damage);
     comparison.section("reads of one byte", Comparison::reads);
-    comparison.section("about a million lines", Comparison::millions);
+    comparison.section("about a million lines", |c| c.millions(options.quick));
     comparison.section("of 10,000 lines", |c| {
         for _ in 0..options.count.div_ceil(LINES as u64) {
             c.generated(LINES);
@@ -55,26 +56,33 @@ pub fn compare(options: &Options) -> u64 {
 
 impl Comparison {
     fn section(&mut self, name: &str, run: impl FnOnce(&mut Self)) {
+        let start = Instant::now();
         let before = [self.played, self.fed, self.lines, self.differences];
         run(self);
+        let seconds = start.elapsed().as_secs_f64();
         let after = [self.played, self.fed, self.lines, self.differences];
         let [played, fed, lines, differences] = core::array::from_fn(|i| after[i] - before[i]);
-        println!("{name:<28}{played:>10} played{fed:>8} fed{lines:>12} lines{differences:>6} differences");
+        println!(
+            "{name:<28}{played:>10} played{fed:>8} fed{lines:>12} lines{seconds:>8.1} s{differences:>6} differences"
+        );
     }
 
-    /// The traces of the folder examples, whose answer lines stand beside them.
     fn examples(&mut self) {
         let folder = Path::new(env!("CARGO_MANIFEST_DIR")).join("../../examples");
-        let files = folder.read_dir().into_iter().flatten().flatten().map(|file| file.path());
-        for file in files.filter(|file| file.extension().is_some_and(|name| name == "trace")) {
-            let trace = fs::read(&file).unwrap_or_default();
-            self.check(&trace, trace.len() * 3);
-            self.feed(&trace, Feeding::Whole);
-            let answers = fs::read(file.with_extension("answers")).unwrap_or_default();
-            if plain_player::play(&trace, usize::MAX).bytes != answers {
-                self.differences += 1;
-                println!("difference: the answers beside {}", file.display());
+        match examples::read(&folder) {
+            Ok(examples) => examples.iter().for_each(|example| self.example(example)),
+            Err(reason) => {
+                self.differs(&reason);
             }
+        }
+    }
+
+    fn example(&mut self, Example { name, trace, answers }: &Example) {
+        self.check(trace, trace.len() * 3);
+        self.feed(trace, Feeding::Whole);
+        let played = plain_player::play(trace, usize::MAX).bytes;
+        if played != *answers && self.differs(&format!("what stands in examples/{name}.answers")) {
+            print_parting(&played, ("the file", Ok(answers)));
         }
     }
 
@@ -134,8 +142,11 @@ impl Comparison {
         }
     }
 
-    fn millions(&mut self) {
-        [999_999, 1_000_000, 1_000_001].into_iter().for_each(|lines| self.generated(lines));
+    /// Around the most lines that are played. The quick run has one line too many, which shows both that a million are
+    /// played and that no more are.
+    fn millions(&mut self, quick: bool) {
+        let lines: &[usize] = if quick { &[1_000_001] } else { &[999_999, 1_000_000, 1_000_001] };
+        lines.iter().for_each(|lines| self.generated(*lines));
     }
 
     fn trace(&mut self, lines: usize) -> Vec<u8> {
@@ -151,37 +162,59 @@ impl Comparison {
 
     /// `play_trace` against the plain player, in a buffer of that size.
     fn check(&mut self, trace: &[u8], size: usize) {
-        let played = plain_player::play(trace, size);
         self.played += 1;
-        self.lines += played.lines as u64;
-        if !players::agrees(trace, size, &played.bytes) {
-            self.differs("play_trace", trace, |part| {
-                !players::agrees(part, size, &plain_player::play(part, size).bytes)
-            });
-        }
+        self.compare("play_trace", trace, size, |trace| players::play_trace(trace, size));
     }
 
     /// The program against the plain player.
     fn feed(&mut self, trace: &[u8], feeding: Feeding) {
-        let played = plain_player::play(trace, usize::MAX);
         self.fed += 1;
-        self.lines += played.lines as u64;
         let program = self.program.clone();
-        if program.play(trace, feeding) != Ok(played.bytes) {
-            self.differs("play", trace, |part| {
-                program.play(part, feeding) != Ok(plain_player::play(part, usize::MAX).bytes)
-            });
-        }
+        self.compare("play", trace, usize::MAX, |trace| program.play(trace, feeding));
     }
 
-    fn differs(&mut self, who: &str, trace: &[u8], differs: impl Fn(&[u8]) -> bool) {
-        self.differences += 1;
-        if self.differences > SHOWN {
+    /// One of the port's players against the plain player, with room for so many bytes.
+    fn compare(&mut self, who: &str, trace: &[u8], room: usize, port: impl Fn(&[u8]) -> Result<Vec<u8>, String>) {
+        let plain = plain_player::play(trace, room);
+        self.lines += plain.lines as u64;
+        if port(trace).as_ref() == Ok(&plain.bytes) || !self.differs(who) {
             return;
         }
         let mut lines: Vec<&[u8]> = trace.split_inclusive(|byte| *byte == b'\n').collect();
-        shrink::shorten(&mut lines, |lines| differs(&lines.concat()));
-        println!("difference: {who} on {:?}", String::from_utf8_lossy(&lines.concat()));
-        println!("  plain {:?}", String::from_utf8_lossy(&plain_player::play(&lines.concat(), usize::MAX).bytes));
+        shrink::shorten(&mut lines, |lines| {
+            let part = lines.concat();
+            port(&part) != Ok(plain_player::play(&part, room).bytes)
+        });
+        let part = lines.concat();
+        println!("  on {}", short(&part));
+        print_parting(&plain_player::play(&part, room).bytes, ("port", port(&part).as_ref()));
     }
+
+    /// Counts a difference, and tells whether it is one of those that are shown.
+    fn differs(&mut self, what: &str) -> bool {
+        self.differences += 1;
+        let shown = self.differences <= SHOWN;
+        if shown {
+            println!("difference: {what}");
+        }
+        shown
+    }
+}
+
+/// The plain player's answer lines and another's, from the first line that isn't the same.
+fn print_parting(plain: &[u8], (who, other): (&str, Result<&Vec<u8>, &String>)) {
+    let other = match other {
+        Ok(bytes) => bytes,
+        Err(reason) => return println!("  plain {}\n  {who}: {reason}", short(plain)),
+    };
+    let same = plain.iter().zip(other).take_while(|(a, b)| a == b).count();
+    let line = plain[..same].iter().rposition(|byte| *byte == b'\n').map_or(0, |end| end + 1);
+    println!("  plain from byte {line} {}\n  {who} {}", short(&plain[line..]), short(&other[line..]));
+}
+
+/// Bytes as text, and how many more there are than are shown.
+fn short(bytes: &[u8]) -> String {
+    let (shown, rest) = bytes.split_at(bytes.len().min(PRINTED));
+    let more = if rest.is_empty() { String::new() } else { format!(" and {} bytes more", rest.len()) };
+    format!("{:?}{more}", String::from_utf8_lossy(shown))
 }

@@ -1,5 +1,7 @@
-//! The port's players.
-use std::io::{Read, Write};
+//! The port's players. Both give the answer lines and nothing else: the C export returns the bytes written alone, and
+//! the program writes all there are. The lines played and 0 or 6 are compared by the program of crates/traces, which
+//! prints them; `compare/plain-answers` works out what it has to print.
+use std::io::{self, Write};
 use std::os::fd::OwnedFd;
 use std::os::unix::net::UnixDatagram;
 use std::path::{Path, PathBuf};
@@ -9,11 +11,16 @@ use std::thread;
 /// What the rest of a buffer holds.
 const UNTOUCHED: u8 = 0xa5;
 
-/// Whether `play_trace` writes just these bytes into a buffer of that size, and nothing behind them.
-pub fn agrees(trace: &[u8], size: usize, bytes: &[u8]) -> bool {
+/// What `play_trace` writes into a buffer of that size; an error if it alters a byte behind that.
+pub fn play_trace(trace: &[u8], size: usize) -> Result<Vec<u8>, String> {
     let mut out = vec![UNTOUCHED; size];
     let written = port::player::play(trace, &mut out);
-    written == bytes.len() && out[..written] == *bytes && out[written..].iter().all(|byte| *byte == UNTOUCHED)
+    let rest = out.get(written..).ok_or_else(|| format!("{written} bytes written, and there are {size}"))?;
+    if let Some(place) = rest.iter().position(|byte| *byte != UNTOUCHED) {
+        return Err(format!("{written} bytes written, yet byte {} has changed", written + place));
+    }
+    out.truncate(written);
+    Ok(out)
 }
 
 /// The program play, `target/bin/play` of the repository.
@@ -41,7 +48,7 @@ impl Program {
         Err(format!("{} is missing: run `rt check play`", path.display()))
     }
 
-    /// What the program writes.
+    /// What the program writes; an error if it ends badly or says anything on standard error.
     pub fn play(&self, trace: &[u8], feeding: Feeding) -> Result<Vec<u8>, String> {
         let said = match feeding {
             Feeding::Whole => self.piped(trace, trace.len().max(1)),
@@ -51,11 +58,11 @@ impl Program {
         said.map_err(|reason| format!("{}: {reason}", self.path.display()))
     }
 
-    fn start(&self, input: Stdio) -> std::io::Result<Child> {
-        Command::new(&self.path).stdin(input).stdout(Stdio::piped()).spawn()
+    fn start(&self, input: Stdio) -> io::Result<Child> {
+        Command::new(&self.path).stdin(input).stdout(Stdio::piped()).stderr(Stdio::piped()).spawn()
     }
 
-    fn piped(&self, trace: &[u8], most: usize) -> std::io::Result<Vec<u8>> {
+    fn piped(&self, trace: &[u8], most: usize) -> io::Result<Vec<u8>> {
         let mut child = self.start(Stdio::piped())?;
         let input = child.stdin.take();
         thread::scope(|scope| {
@@ -65,8 +72,9 @@ impl Program {
         })
     }
 
-    /// A read from a socket of datagrams returns one of them, an empty one like the end of a file, which may be looked at twice.
-    fn by_datagrams(&self, trace: &[u8], most: usize) -> std::io::Result<Vec<u8>> {
+    /// A read from a socket of datagrams returns one of them, an empty one like the end of a file, which may be looked
+    /// at twice.
+    fn by_datagrams(&self, trace: &[u8], most: usize) -> io::Result<Vec<u8>> {
         let (ours, theirs) = UnixDatagram::pair()?;
         let child = self.start(Stdio::from(OwnedFd::from(theirs)))?;
         thread::scope(|scope| {
@@ -79,15 +87,13 @@ impl Program {
     }
 }
 
-/// What a program writes until it ends well.
-fn written(mut child: Child) -> std::io::Result<Vec<u8>> {
-    let mut bytes = Vec::new();
-    if let Some(mut output) = child.stdout.take() {
-        output.read_to_end(&mut bytes)?;
+/// What a program writes until it ends well. A Rattle program has no exit status of its own: what it says on standard
+/// error is its failure.
+fn written(child: Child) -> io::Result<Vec<u8>> {
+    let output = child.wait_with_output()?;
+    if output.status.success() && output.stderr.is_empty() {
+        return Ok(output.stdout);
     }
-    let status = child.wait()?;
-    if status.success() {
-        return Ok(bytes);
-    }
-    Err(std::io::Error::other(format!("{status}")))
+    let said = String::from_utf8_lossy(&output.stderr);
+    Err(io::Error::other(format!("{}, on standard error {:?}", output.status, said.trim_end())))
 }

@@ -1,5 +1,6 @@
 //! The lines, and the others on them.
-use super::{Host, Others};
+use super::habits::Others;
+use super::Host;
 use crate::random::Random;
 use crate::script::{self, Levels};
 use words::iic::{self, Call, State};
@@ -9,7 +10,7 @@ impl Host {
     /// The levels of the lines: low where anybody pulls.
     pub(super) fn lines(&self, state: &State) -> Levels {
         let enabled = state[iic::CONTROL] & 0x80 != 0;
-        let forced = self.forced && state[iic::HOLD] != 0;
+        let forced = self.habits.forced && state[iic::HOLD] != 0;
         let pulls = |line: usize| enabled && state[iic::DRIVE + line] == 0 && !(forced && line == 0);
         core::array::from_fn(|line| self.other[line] && !pulls(line))
     }
@@ -22,7 +23,7 @@ impl Host {
     /// The others on the lines do something.
     pub(super) fn others(&mut self, random: &mut Random, state: &State) -> (Call, Args) {
         let settled = (0..2).all(|i| state[iic::RAW + i] == state[iic::FILTERED + i]);
-        match self.others {
+        match self.habits.others {
             Others::None => return self.serve(random, state),
             Others::Pulling => self.pull(random, state),
             Others::Master if !settled && !random.once_in(12) => return self.visit(random, state),
@@ -39,10 +40,10 @@ impl Host {
         }
         let [present, _, _, phase, _, transmit] = core::array::from_fn(|i| state[iic::FRAME + i]);
         let low = match (present, phase, transmit) {
-            (1, 0, 1) => self.contended,
+            (1, 0, 1) => self.habits.contended,
             (1, 0, _) => 50,
             (1, _, 1) => 80,
-            _ => self.contended,
+            _ => self.habits.contended,
         };
         self.other[1] = random.below(100) >= low;
     }

@@ -1,6 +1,7 @@
-//! A host that does what its driver is there for: whole transfers, with slaves that acknowledge, answer and stretch, another
-//! master now and then, and synchronous bytes.
-use super::{Driver, Host, Others};
+//! A host that does what its driver is there for: whole transfers, with slaves that acknowledge, answer and stretch,
+//! another master now and then, and synchronous bytes.
+use super::habits::{Driver, Others};
+use super::Host;
 use crate::random::Random;
 use words::iic::{self, Call, State, AL, NACKF, RDRF, STOP, TDRE, TEND};
 use words::layout::Args;
@@ -10,32 +11,21 @@ const START: u64 = 0x90;
 const END: u64 = 0x10;
 
 impl Host {
-    pub(super) fn calm_down(&mut self, random: &mut Random) {
-        self.calm = true;
-        self.driver = random.pick(&[Driver::Master, Driver::Slave, Driver::Synchronous]);
-        self.others = if matches!(self.driver, Driver::Slave) { Others::Master } else { Others::Pulling };
-        self.told = 100;
-        (self.late, self.astray, self.forced) = (false, false, false);
-        self.hostile = 0;
-        self.contended = random.pick(&[0, 0, 0, 2]);
-        self.begin(random);
-    }
-
     /// The registers for a new round of transfers.
-    fn begin(&mut self, random: &mut Random) {
+    pub(super) fn begin(&mut self, random: &mut Random) {
         self.left = 1 + random.below(3);
         self.other = [true; 2];
         let rate = random.below(16);
         let address = random.word() & 0xfe;
         let enables = random.pick(&[0, 4, 0x30, 0xfc]);
         let order = random.pick(&[0, 0, 0, 0x80, 0x40]);
-        let (address, control) = match self.driver {
+        let (address, control) = match self.habits.driver {
             Driver::Synchronous => (address | 1, 0x80 | random.pick(&[0x30, 0x20, 0x10, 0])),
             Driver::Slave => (address, 0x80),
             _ => (address, 0xb0),
         };
         self.setup.extend([(0, 0), (5, address), (3, enables), (2, order), (0, control | rate)]);
-        if matches!(self.driver, Driver::Master) {
+        if self.habits.driver == Driver::Master {
             self.setup.extend([(1, START), (6, random.word() & 0xff)]);
         }
     }
@@ -45,7 +35,7 @@ impl Host {
             return self.at(random, call, operands);
         }
         // Nothing will happen any more by itself: no wait, or one that was missed.
-        let still = self.deadline.map_or(self.others != Others::Master, |at| at <= self.now);
+        let still = self.deadline.map_or(self.habits.others != Others::Master, |at| at <= self.now);
         if random.once_in(if still { 4 } else { 2000 }) {
             self.begin(random);
         }
@@ -66,7 +56,7 @@ impl Host {
         let byte = random.word() & 0xff;
         let events = status & (NACKF | STOP | AL);
         if events & seen != 0 {
-            if self.others == Others::Pulling && control & 0x20 != 0 {
+            if self.habits.others == Others::Pulling && control & 0x20 != 0 {
                 // A transfer has ended, well or not.
                 self.left = 1 + random.below(3);
                 self.setup.extend([(1, if events & NACKF != 0 { END } else { START }), (6, byte)]);
@@ -111,7 +101,7 @@ impl Host {
 
     /// The others see to each low phase of SCL once; another master plays on when the lines are at rest.
     fn answer(&mut self, random: &mut Random, state: &State) {
-        if self.others == Others::Master {
+        if self.habits.others == Others::Master {
             if self.deadline.is_none() && self.lines(state) == self.given(state) {
                 self.play(random, state);
             }

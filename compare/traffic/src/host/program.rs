@@ -1,4 +1,4 @@
-//! What the host's program does: it serves the registers, changes its mind, or makes any call at all.
+//! What the host's program does: it serves the registers, breaks off what is under way, or makes any call at all.
 use super::Host;
 use crate::random::Random;
 use words::iic::{self, Call, State, RDRF, TDRE, TEND};
@@ -12,12 +12,12 @@ impl Host {
     pub(super) fn serve(&mut self, random: &mut Random, state: &State) -> (Call, Args) {
         let status = state[iic::STATUS];
         let byte = random.word() & 0xff;
-        if random.below(100) < self.meddling {
+        if random.below(100) < self.habits.meddling {
             return self.meddle(random, state);
         }
         let (call, operands) = match random.below(20) {
             0..=6 if status & TDRE != 0 => (Call::Write, [6, byte]),
-            0..=6 if status & RDRF != 0 && random.below(100) >= self.lazy => (Call::Read, [7, 0]),
+            0..=6 if status & RDRF != 0 && random.below(100) >= self.habits.lazy => (Call::Read, [7, 0]),
             7..=8 if status & TEND != 0 => (Call::Write, [1, random.pick(&[0x90, 0x10, 0x10])]),
             9 if status & RDRF != 0 => (Call::Write, [0, state[iic::CONTROL] ^ 0x40]),
             10..=11 if state[iic::SEEN] & status & EVENTS != 0 => (Call::Write, [4, byte & !status]),
@@ -31,7 +31,7 @@ impl Host {
         self.at(random, call, operands)
     }
 
-    /// The program changes its mind.
+    /// The program breaks off what is under way, or alters it.
     pub(super) fn meddle(&mut self, random: &mut Random, state: &State) -> (Call, Args) {
         let control = state[iic::CONTROL];
         let byte = random.word() & 0xff;
