@@ -1,8 +1,8 @@
 // Plays traces with every verb, every refusal that a trace can draw and every malformed form, each from a file of data/, through `player::play`
 // into a lent buffer: the answer lines, and then a line of the bytes written, the lines played and 0 or 6.
 //
-// The file stdout isn't ours: `compare/plain-answers` makes it of data/ with the plain Rust player of compare/, which plays the unmodified
-// sources, and adds the line of the three numbers. The traces of random calls are `make-trace 1 600`, `2 600` and `3 600` of compare/, the hostile one
+// The file stdout isn't made by the port: `compare/plain-answers` makes it of data/ with the plain Rust player of compare/, which plays the
+// unmodified sources, and adds the line of the three numbers. The traces of random calls are `make-trace 1 600`, `2 600` and `3 600` of compare/, the hostile one
 // is such a trace with bytes changed, and those of whole transfers are the ones of examples/.
 
 fn text(bytes: &[u8]) {
