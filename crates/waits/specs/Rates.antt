@@ -7,24 +7,28 @@ use lib.Bits.{bitAnd}
 use lib.ListN.{getD}
 use Rattle.bus.specs.Bits.{has}
 
--- a half clock: half counts by bits 0 to 2 (181)
+-- CKS is bits 3 to 0 of ICCR1; this is bit 3
+abbrev pub CKS3 : ℕ
+CKS3 = 8
+
+-- a half clock: half counts by CKS2 to CKS0 (181)
 abbrev pub halfClocks : List ℕ
 halfClocks = 28 ∷ 40 ∷ 48 ∷ 64 ∷ 80 ∷ 100 ∷ 112 ∷ 128 ∷ []
 
--- the monitor wait: half counts by bits 2 and 3 (881)
+-- the monitor wait: half counts by CKS3 and CKS2 (881)
 abbrev pub monitorWaits : List ℕ
 monitorWaits = 15 ∷ 39 ∷ 35 ∷ 83 ∷ []
 
--- a slave's setup wait: clocks by bit 3 (777)
+-- a slave's setup wait: clocks by CKS3 (777)
 abbrev pub setupWaits : List ℕ
 setupWaits = 10 ∷ 20 ∷ []
 
 unfoldable pub rate : ℕ → ℕ
 rate control = getD halfClocks (bitAnd control 7) 0
 
--- a half clock is doubled by bit 3 (182)
+-- a half clock is doubled by CKS3 (182)
 unfoldable pub periodOf : ℕ → ℕ
-periodOf control = cond (has control 8) (2 * rate control) (rate control)
+periodOf control = cond (has control CKS3) (2 * rate control) (rate control)
 
 unfoldable pub monitorHalves : ℕ → ℕ
 monitorHalves control = getD monitorWaits (bitAnd (control / 4) 3) 0

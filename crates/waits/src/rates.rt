@@ -2,13 +2,16 @@
 ghost use mathlib.Core.Path.{_≡_};
 ghost use Rattle.waits.specs.Rates.{rate, periodOf, monitorHalves, setupCycles};
 
-// Half counts of a half clock, by ICCR1 bits 0 to 2.
+// CKS is bits 3 to 0 of ICCR1; this is bit 3.
+const CKS3: u8 = 8;
+
+// Half counts of a half clock, by CKS2 to CKS0.
 const HALF_CLOCKS: [u16; 8] = [28, 40, 48, 64, 80, 100, 112, 128];
 
-// Half counts until a rising clock is looked at, by ICCR1 bits 2 and 3.
+// Half counts until a rising clock is looked at, by CKS3 and CKS2.
 const MONITOR_WAITS: [u16; 4] = [15, 39, 35, 83];
 
-// Clocks before a slave lets SCL go, by ICCR1 bit 3.
+// Clocks before a slave releases SCL, by CKS3.
 const SETUP_WAITS: [u16; 2] = [10, 20];
 
 fn rate(control: u8) -> u16
@@ -22,7 +25,7 @@ pub fn period(control: u8) -> u32
     ensures { λ r. ⌜ r ≡ periodOf control ⌝ }
 {
     let n = rate(control) as u32;
-    let slow = control & 8 != 0;
+    let slow = control & CKS3 != 0;
     if slow { 2 * n } else { n }
 }
 
