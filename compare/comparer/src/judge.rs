@@ -1,5 +1,7 @@
 //! What the port must answer, from what the two builds of the Rust do.
-use words::calls::{Answer, Call, End, Function, Kind, Reference, Trap};
+use crate::differences::functions::{self, Handed};
+use crate::differences::{self, Like, Parting};
+use words::calls::{Answer, Call, End, Function, Kind, Reference};
 use words::layout::{self, Args, Set};
 
 /// One call as the port and both builds of the Rust end it.
@@ -21,12 +23,24 @@ pub fn sets(words: &Set) -> Sets {
 pub enum Expected {
     /// As both builds of the Rust, which agree.
     Rust,
-    /// As the plain build, where the checked one traps.
-    Plain,
-    /// This refusal, though the Rust has no such input or traps on it.
-    Refusal(u8),
-    /// The builds part, and nothing says why.
+    /// As a row of docs/DIFFERENCES.md has it.
+    Parting(Parting),
+    /// This refusal, which the Rust doesn't have: it isn't asked.
+    Added(u8),
+    /// The builds part or trap, and no row of docs/DIFFERENCES.md allows it.
     Unknown,
+}
+
+impl Expected {
+    /// The row that says so, where it isn't what both builds do.
+    pub fn row(self) -> Option<&'static str> {
+        match self {
+            Expected::Rust => None,
+            Expected::Parting(parting) => Some(parting.row),
+            Expected::Added(number) => Some(differences::row_added(number)),
+            Expected::Unknown => Some("NONE"),
+        }
+    }
 }
 
 impl Judge {
@@ -38,7 +52,7 @@ impl Judge {
     pub fn run(&mut self, function: &Function, words: &Set, sets: &Sets, args: &Args) -> Expected {
         port::answer(function.call, words, args, &mut self.port);
         if let Some(number) = added(function, words, args) {
-            return Expected::Refusal(number);
+            return Expected::Added(number);
         }
         let (plain, checked) = match sets {
             Some((plain, checked)) if function.set => (Some(plain), Some(checked)),
@@ -46,34 +60,49 @@ impl Judge {
         };
         reference::Bridge::answer(function.call, plain, args, &mut self.plain);
         checked::Bridge::answer(function.call, checked, args, &mut self.checked);
-        self.expected(function, words, args)
+        self.expected(function, &Handed { words, set: checked, args })
     }
 
-    fn expected(&self, function: &Function, words: &Set, args: &Args) -> Expected {
-        match self.checked.end {
-            End::Trapped(Trap::Subtract) if before_start(function, words, args) => Expected::Plain,
-            End::Trapped(Trap::Overflow) => Expected::Refusal(7),
-            End::Trapped(Trap::Divide) => Expected::Refusal(2),
-            End::Trapped(_) => Expected::Unknown,
-            _ if same(function, &self.plain, &self.checked) => Expected::Rust,
-            _ => Expected::Unknown,
+    fn expected(&self, function: &Function, handed: &Handed) -> Expected {
+        let (plain, checked) = (&self.plain, &self.checked);
+        if !matches!(checked.end, End::Trapped(_)) {
+            return if same(function, plain, checked) { Expected::Rust } else { Expected::Unknown };
         }
+        let parting = functions::parting(function.call, handed, plain.end, checked.end);
+        parting.map_or(Expected::Unknown, Expected::Parting)
     }
 
     /// Whether the port answers as it should.
     pub fn agrees(&self, function: &Function, args: &Args, expected: Expected) -> bool {
         match expected {
-            Expected::Rust | Expected::Plain => same(function, &self.port, &self.plain),
-            Expected::Refusal(number) => {
-                let left = match number {
-                    _ if !function.always => true,
-                    1 => self.port.words[1..=function.gives] == args[..function.gives],
-                    _ => equal(function, &self.port, &self.checked),
-                };
-                self.port.end == End::Refused(number) && left
+            Expected::Rust => same(function, &self.port, &self.plain),
+            Expected::Parting(parting) => self.port.end == parting.end && self.left(function, parting),
+            Expected::Added(number) => {
+                let unchanged = self.port.words[1..=function.gives] == args[..function.gives];
+                self.port.end == End::Refused(number) && (!function.always || unchanged)
             }
             Expected::Unknown => false,
         }
+    }
+
+    /// Whether the port's words at a parting are those of the build that the row names.
+    fn left(&self, function: &Function, parting: Parting) -> bool {
+        if parting.end != End::Done && !function.always {
+            return true;
+        }
+        let like = |answer: &Answer| equal(function, &self.port, answer);
+        match parting.like {
+            Like::Both => like(&self.plain) && like(&self.checked),
+            Like::Plain => like(&self.plain),
+            Like::Checked => like(&self.checked),
+            Like::PlainUpToTheSum => false,
+        }
+    }
+
+    /// How the plain build, the checked one and the port ended; none for the Rust where it wasn't asked.
+    pub fn ends(&self, expected: Expected) -> [Option<End>; 3] {
+        let asked = !matches!(expected, Expected::Added(_));
+        [asked.then_some(self.plain.end), asked.then_some(self.checked.end), Some(self.port.end)]
     }
 }
 
@@ -101,16 +130,4 @@ fn added(function: &Function, words: &Set, args: &Args) -> Option<u8> {
     };
     let stage = args[function.place(Kind::Stage)?];
     (stage < 1 || stage > stages as u64).then_some(3)
-}
-
-/// Whether the level of a clock is asked for at a time before its start: the Rust subtracts there, and wraps or traps.
-fn before_start(function: &Function, words: &Set, args: &Args) -> bool {
-    let (source, at) = match function.call {
-        Call::ClocksHigh => (args[0] as usize, layout::TAP),
-        Call::HalfTicks => (0, 0),
-        _ => return false,
-    };
-    let domain = layout::domain(words, source);
-    let now = if domain[4] != 0 { layout::time_at(args, at) } else { layout::time_at(domain, 5) };
-    now < layout::time_at(domain, 0)
 }

@@ -1,5 +1,4 @@
 //! Compares the port with the unmodified Rust, call by call: on every boundary, then at random.
-#[cfg(test)]
 mod differences;
 mod hosts;
 mod inputs;

@@ -7,7 +7,6 @@ mod tally;
 mod trial;
 use crate::inputs;
 use crate::options::Options;
-use machine::Machine;
 use std::time::Instant;
 use tally::Tally;
 use traffic::exact;
@@ -114,5 +113,5 @@ fn from_made(random: &mut Random, tally: &mut Tally) {
     let state = states::random(random, &set, now);
     let host = Host::over_state(random, now, clock);
     let length = 1 + random.below(6);
-    Trial::new(set, Machine::new(&state), tally::ACCEPTED, tally).play(random, host, length);
+    Trial::made(set, &state, now, tally).play(random, host, length);
 }

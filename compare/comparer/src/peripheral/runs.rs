@@ -1,5 +1,7 @@
 //! Runs of calls, each compared, and the smallest run that shows a difference.
-use super::machine::{Difference, Machine, Sets};
+use super::machine::{ClockSet, Difference, Machine};
+use super::tally;
+use crate::differences::peripheral::Origin;
 use crate::shrink;
 use words::calls::End;
 use words::iic::{Call, State};
@@ -11,6 +13,7 @@ pub type Step = (Call, Args);
 pub struct Run {
     pub set: Set,
     pub state: State,
+    pub origin: Origin,
     pub steps: Vec<Step>,
 }
 
@@ -23,15 +26,15 @@ pub struct Asked {
 }
 
 /// After a call: all that can be asked.
-pub fn ask(machine: &mut Machine, sets: &Sets, args: &Args) -> Result<Asked, Difference> {
+pub fn ask(machine: &mut Machine, set: &ClockSet, args: &Args) -> Result<Asked, Difference> {
     let mut questions = *args;
     // Any address whose bits 0 to 2 are 0, and any enables.
     questions[2] = args[1] & 0xfff8;
     questions[3] = args[1] >> 16 & 0xff;
-    machine.call(Call::Observe, sets, &questions)?;
-    machine.call(Call::Validate, sets, args)?;
+    machine.call(Call::Observe, set, &questions)?;
+    machine.call(Call::Validate, set, args)?;
     let validated = machine.answer().end;
-    machine.call(Call::Deadline, sets, args)?;
+    machine.call(Call::Deadline, set, args)?;
     let answer = machine.answer();
     let known = answer.end == End::Done && answer.words[1] != 0;
     let deadline = known.then(|| words::layout::time_at(&answer.words, 2));
@@ -40,7 +43,7 @@ pub fn ask(machine: &mut Machine, sets: &Sets, args: &Args) -> Result<Asked, Dif
 
 impl Run {
     pub fn new(set: Set, machine: &Machine) -> Self {
-        Self { set, state: *machine.state(), steps: Vec::new() }
+        Self { set, state: *machine.state(), origin: machine.origin(), steps: Vec::new() }
     }
 
     /// The step at which the run shows a difference, and the difference.
@@ -50,10 +53,10 @@ impl Run {
 
     /// The same of other steps.
     fn at(&self, steps: &[Step]) -> Option<(usize, Difference)> {
-        let sets = Sets::new(self.set);
-        let mut machine = Machine::new(&self.state);
+        let set = ClockSet::new(self.set);
+        let mut machine = Machine::new(&self.state, self.origin);
         for (place, (call, args)) in steps.iter().enumerate() {
-            let asked = machine.call(*call, &sets, args).and_then(|()| ask(&mut machine, &sets, args).map(|_| ()));
+            let asked = machine.call(*call, &set, args).and_then(|()| ask(&mut machine, &set, args).map(|_| ()));
             if let Err(difference) = asked {
                 return Some((place, difference));
             }
@@ -71,16 +74,17 @@ impl Run {
         self.steps = steps;
     }
 
-    pub fn print(&self) {
-        println!("difference: the peripheral");
+    /// Prints the run and its difference; the one that was found where the run shows none by itself.
+    pub fn print(&self, found: &Difference) {
+        println!("difference: the peripheral, a run from {}", tally::name(self.origin));
         println!("  set: {}", hex(&self.set));
         println!("  state: {}", hex(&self.state));
         for (call, args) in &self.steps {
             println!("  {}:{:016x} {call:?} {:x} {:x}", args[0], args[1], args[2], args[3]);
         }
-        if let Some((_, difference)) = self.difference() {
-            println!("  {:?}: {}", difference.call, difference.what);
-        }
+        let again = self.difference();
+        let difference = again.as_ref().map_or(found, |(_, difference)| difference);
+        println!("  {:?}: {}", difference.call, difference.what);
     }
 }
 
