@@ -131,3 +131,74 @@ fn added(function: &Function, words: &Set, args: &Args) -> Option<u8> {
     let stage = args[function.place(Kind::Stage)?];
     (stage < 1 || stage > stages as u64).then_some(3)
 }
+
+#[cfg(test)]
+mod tests {
+    use super::*;
+    use crate::inputs::grid;
+    use std::collections::BTreeSet;
+    use traffic::random::Random;
+    use words::calls;
+
+    /// A call, and how its sides ended when it was made.
+    struct Case<'a> {
+        function: &'a Function,
+        words: &'a Set,
+        sets: &'a Sets,
+        args: &'a Args,
+    }
+
+    impl Case<'_> {
+        /// Whether the port is judged to be right after a change to what the sides ended in.
+        fn right(&self, change: impl Fn(&mut Judge)) -> bool {
+            let mut judge = Judge::new();
+            let mut expected = judge.run(self.function, self.words, self.sets, self.args);
+            change(&mut judge);
+            if !matches!(expected, Expected::Added(_)) {
+                let set = self.sets.as_ref().map(|(_, checked)| checked);
+                expected = judge.expected(self.function, &Handed { words: self.words, set, args: self.args });
+            }
+            judge.agrees(self.function, self.args, expected)
+        }
+
+        /// Each answer word and each end of a side is changed by itself.
+        fn changes_are_caught(&self, end: End, side: fn(&mut Judge) -> &mut Answer) {
+            let name = self.function.name;
+            if end == End::Done || self.function.always {
+                for place in 1..=self.function.gives {
+                    assert!(!self.right(|judge| side(judge).words[place] ^= 1), "{name}: word {place}");
+                }
+            }
+            for other in [End::Done].into_iter().chain((1..=12).map(End::Refused)).filter(|other| *other != end) {
+                assert!(!self.right(|judge| side(judge).end = other), "{name}: {other:?}");
+            }
+        }
+    }
+
+    #[test]
+    fn each_change_is_a_difference() {
+        crate::report::hide_traps();
+        let mut seen = BTreeSet::new();
+        for function in calls::TIME.iter().chain(calls::CLOCKS) {
+            grid::each(&mut Random::new(1), function, &mut |words, args| {
+                let sets = if function.set { sets(words) } else { None };
+                let mut judge = Judge::new();
+                let expected = judge.run(function, words, &sets, args);
+                let end = judge.port.end;
+                if !seen.insert((function.name, format!("{end:?}"), expected.row())) {
+                    return;
+                }
+                let case = Case { function, words, sets: &sets, args };
+                assert!(case.right(|_| {}), "{}", function.name);
+                case.changes_are_caught(end, |judge| &mut judge.port);
+                if expected == Expected::Rust {
+                    case.changes_are_caught(end, |judge| &mut judge.plain);
+                    case.changes_are_caught(end, |judge| &mut judge.checked);
+                }
+            });
+        }
+        for row in functions::names().chain([1, 3].map(differences::row_added)) {
+            assert!(seen.iter().any(|(_, _, met)| *met == Some(row)), "{row} never came up");
+        }
+    }
+}

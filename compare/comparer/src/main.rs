@@ -20,8 +20,7 @@ fn main() -> ExitCode {
             return ExitCode::from(2);
         }
     };
-    // A trap of the Rust is an end like any other here.
-    std::panic::set_hook(Box::new(|_| {}));
+    report::hide_traps();
     let mut differences = 0;
     for name in options.parts() {
         differences += match name {

@@ -4,6 +4,15 @@ use std::collections::BTreeMap;
 use words::calls::{End, Function};
 use words::layout::{Args, Set};
 
+/// A trap of the Rust, whose files lie in the build folder, is an end like any other: only other panics are printed.
+pub fn hide_traps() {
+    std::panic::set_hook(Box::new(|panic| {
+        if !panic.location().is_some_and(|at| at.file().contains("/out/rust/")) {
+            eprintln!("compare: {panic}");
+        }
+    }));
+}
+
 /// How often the port and the builds of the Rust ended a call in ways that aren't the same: by the call, by the ends of the
 /// plain build, the checked one and the port, and by the row of docs/DIFFERENCES.md that allows it, or none.
 #[derive(Default)]

@@ -1,5 +1,7 @@
 //! One peripheral, three times: the port's, and those of both builds of the Rust. After every call all that can be seen of
 //! them is compared.
+#[cfg(test)]
+mod tests;
 use crate::differences::peripheral::{self as rows, Handed, Origin};
 use crate::differences::{row_added, Like, Parting};
 use crate::inputs::{plain_set, FREQUENCIES};
