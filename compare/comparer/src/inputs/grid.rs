@@ -2,6 +2,7 @@
 //! too many. A combination is a number, whose digits choose the boundaries.
 use super::focus::Focus;
 use super::numbers::{self, DENOMINATORS, DIVIDERS, FREQUENCIES, STAGES, WORDS};
+use super::plain_set;
 use traffic::exact;
 use traffic::random::Random;
 use words::calls::{Function, Kind};
@@ -158,19 +159,6 @@ fn put_state(digits: &mut Digits, focus: &Focus, out: &mut [u64]) {
             put_time(numbers::fixed_times(focus)[place - 2 * counts], &mut out[1..]);
         }
     }
-}
-
-/// A set as `Clocks::new` makes it.
-pub fn plain_set(start: u128, [main, watch, on_chip]: [u64; 3]) -> Set {
-    let [seconds, fraction] = layout::halves(start);
-    let mut set = [0; layout::SET];
-    let rates = [(main, 1), (main, 1), (watch, 1), (on_chip, 1), (main, 1), (watch, 8)];
-    for (domain, (hz, divide)) in set.chunks_mut(layout::DOMAIN).zip(rates) {
-        domain.copy_from_slice(&[seconds, fraction, hz, divide, 1, seconds, fraction]);
-    }
-    set[layout::AT_S + 2] = 1;
-    set[layout::AT_W + 2] = 1;
-    set
 }
 
 /// New sets at every frequency and start, and the same with all domains stopped, at their start or before it, with prescalers
