@@ -1,10 +1,11 @@
 //! The peripheral: runs of calls from the default, and a few calls from states made at random.
 pub mod machine;
+mod rare;
 mod runs;
-mod scenes;
+pub mod scenes;
 mod states;
-mod tally;
-mod trial;
+pub mod tally;
+pub mod trial;
 use crate::inputs;
 use crate::options::Options;
 use std::time::Instant;
@@ -35,13 +36,14 @@ pub fn compare(options: &Options) -> u64 {
     }
     let seconds = start.elapsed().as_secs_f64();
     tally.print();
+    let missing = tally.rare.print(&tally, options);
     println!(
         "iic: seed {}, {} calls, each with 14 questions after it, {seconds:.1} s, {:.2} million calls a second",
         options.seed,
         tally.calls(),
         tally.calls() as f64 / seconds / 1e6
     );
-    tally.differences
+    tally.differences + missing
 }
 
 /// A set as `Clocks::new` makes it, at any frequency and start, and a time at which a run begins.

@@ -3,6 +3,7 @@ use super::machine::{ClockSet, Difference, Machine};
 use super::tally;
 use crate::differences::peripheral::Origin;
 use crate::shrink;
+use traffic::random::Random;
 use words::calls::End;
 use words::iic::{Call, State};
 use words::layout::{Args, Set};
@@ -17,28 +18,41 @@ pub struct Run {
     pub steps: Vec<Step>,
 }
 
+/// Where the arguments of a step have what the questions after it are asked with, which the call itself doesn't look at: an
+/// address for `peek`, whose bits 0 to 2 are 0, and a byte of enables.
+const PEEKED: usize = 4;
+const RETAINED: usize = 5;
+
 /// What the questions after a call were answered.
 pub struct Asked {
     pub validated: End,
     pub deadline_end: End,
     /// The deadline, where there is one.
     pub deadline: Option<u128>,
+    /// Whether a retained enable is all that makes an interrupt.
+    pub retained_alone: bool,
+}
+
+/// Puts any address and any enables into the arguments of a step, the same for a number.
+pub fn put_questions(number: u64, args: &mut Args) {
+    let mixed = Random::new(number).word();
+    args[PEEKED] = mixed & 0xfff8;
+    args[RETAINED] = mixed >> 16 & 0xff;
 }
 
 /// After a call: all that can be asked.
 pub fn ask(machine: &mut Machine, set: &ClockSet, args: &Args) -> Result<Asked, Difference> {
     let mut questions = *args;
-    // Any address whose bits 0 to 2 are 0, and any enables.
-    questions[2] = args[1] & 0xfff8;
-    questions[3] = args[1] >> 16 & 0xff;
+    questions[2..4].copy_from_slice(&[args[PEEKED], args[RETAINED]]);
     machine.call(Call::Observe, set, &questions)?;
+    let interrupts = [12, 13].map(|place| machine.answer().words[place]);
     machine.call(Call::Validate, set, args)?;
     let validated = machine.answer().end;
     machine.call(Call::Deadline, set, args)?;
     let answer = machine.answer();
     let known = answer.end == End::Done && answer.words[1] != 0;
     let deadline = known.then(|| words::layout::time_at(&answer.words, 2));
-    Ok(Asked { validated, deadline_end: answer.end, deadline })
+    Ok(Asked { validated, deadline_end: answer.end, deadline, retained_alone: interrupts == [0, 1] })
 }
 
 impl Run {

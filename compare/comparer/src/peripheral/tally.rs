@@ -1,4 +1,5 @@
 //! Counts of calls, by where their run began and how they ended.
+use super::rare::Rare;
 use crate::differences::peripheral::Origin;
 use crate::report::Partings;
 use words::calls::End;
@@ -7,7 +8,7 @@ use words::calls::End;
 const NUMBERS: [u8; 8] = [1, 2, 7, 8, 9, 10, 11, 12];
 
 /// Ends of calls by the number of the refusal.
-type Refusals = [u64; NUMBERS.len()];
+pub type Refusals = [u64; NUMBERS.len()];
 
 /// Where a run begins, by the number of the origin.
 const ORIGINS: [&str; 3] = ["the default", "accepted states", "refused states"];
@@ -25,7 +26,13 @@ pub struct Tally {
     pub deadlines: Refusals,
     pub validated: Refusals,
     pub partings: Partings,
+    pub rare: Rare,
     pub differences: u64,
+}
+
+/// How often a refusal was counted.
+pub fn refusals(counts: &Refusals, number: u8) -> u64 {
+    NUMBERS.iter().zip(counts).filter(|(n, _)| **n == number).map(|(_, count)| count).sum()
 }
 
 /// Counts an end; an error for a refusal that the peripheral doesn't draw.

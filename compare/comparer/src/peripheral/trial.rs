@@ -1,7 +1,9 @@
 //! A run under way: what was called, and everybody's peripheral.
 use super::machine::{ClockSet, Difference, Machine};
+use super::rare::Seen;
 use super::runs::{self, Asked, Run};
 use super::tally::{self, count, Tally};
+use crate::differences::peripheral::Origin;
 use traffic::host::Host;
 use traffic::random::Random;
 use words::iic::{Call, State};
@@ -16,13 +18,15 @@ pub struct Trial<'a> {
     machine: Machine,
     set: ClockSet,
     run: Run,
+    /// The deadline after the last call.
+    deadline: Option<u128>,
     tally: &'a mut Tally,
 }
 
 impl<'a> Trial<'a> {
     fn new(set: ClockSet, machine: Machine, tally: &'a mut Tally) -> Self {
         tally.runs[machine.origin() as usize] += 1;
-        Self { run: Run::new(set.words, &machine), machine, set, tally }
+        Self { run: Run::new(set.words, &machine), machine, set, deadline: None, tally }
     }
 
     /// From the default; none where that differs.
@@ -51,7 +55,8 @@ impl<'a> Trial<'a> {
     }
 
     /// Makes a call and all questions after it, everywhere. At a difference it shows the smallest run and answers none.
-    pub fn step(&mut self, (call, args): (Call, Args)) -> Option<Asked> {
+    pub fn step(&mut self, (call, mut args): (Call, Args)) -> Option<Asked> {
+        runs::put_questions(self.tally.calls(), &mut args);
         let asked = self.ask(call, &args);
         self.run.steps.push((call, args));
         let origin = self.machine.origin();
@@ -72,6 +77,7 @@ impl<'a> Trial<'a> {
 
     /// A call and all questions after it.
     fn ask(&mut self, call: Call, args: &Args) -> Result<Asked, Difference> {
+        let before = *self.state();
         self.machine.call(call, &self.set, args)?;
         let end = self.machine.answer().end;
         let asked = runs::ask(&mut self.machine, &self.set, args)?;
@@ -80,6 +86,11 @@ impl<'a> Trial<'a> {
             .and_then(|()| count(&mut tally.deadlines, asked.deadline_end))
             .and_then(|()| count(&mut tally.validated, asked.validated))
             .map_err(|what| Difference { call, what })?;
+        if self.machine.origin() == Origin::Default {
+            let (deadline, after) = (self.deadline, self.machine.state());
+            tally.rare.look(&Seen { call, args, end, before: &before, deadline, after, asked: &asked });
+        }
+        self.deadline = asked.deadline;
         Ok(asked)
     }
 
