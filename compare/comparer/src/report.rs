@@ -33,6 +33,11 @@ impl Partings {
             println!("{call:<32}{ends:<48}{calls:>12}  {row}");
         }
     }
+
+    #[cfg(test)]
+    pub fn is_empty(&self) -> bool {
+        self.0.is_empty()
+    }
 }
 
 fn named(end: End) -> String {

@@ -3,6 +3,10 @@ use super::{counted, held_early, row_of, seen, system_edge};
 use super::{BELOW_ZERO, BY_ZERO, PAUSED, READY, RUNNING, SYSTEM_2, TOO_LARGE, TOP};
 use crate::inputs::{plain_set, FREQUENCIES as DEFAULT};
 use crate::peripheral::machine::{ClockSet, Machine};
+use crate::peripheral::scenes::Stage;
+use crate::peripheral::system;
+use crate::peripheral::tally::Tally;
+use crate::peripheral::trial::Trial;
 use words::calls::{Answer, Reference};
 use words::iic::{self, Call, Peripheral, State};
 use words::layout::{self, Args, Set};
@@ -40,69 +44,32 @@ fn check(row: &'static str, call: Call, state: &State, set: &Set, args: &Args, e
     left
 }
 
-/// A machine from the default, all of whose calls end alike in both builds and the port.
-struct Alike {
-    machine: Machine,
-    sets: ClockSet,
-    now: u128,
-}
-
-impl Alike {
-    fn new() -> Self {
-        Self { machine: Machine::fresh().unwrap(), sets: ClockSet::new(plain_set(0, DEFAULT)), now: 0 }
-    }
-    fn call(&mut self, call: Call, operands: [u64; 2]) {
-        self.machine.call(call, &self.sets, &args(layout::halves(self.now), operands)).unwrap();
-    }
-    /// Visits at each deadline until there is none.
-    fn settle(&mut self) {
-        loop {
-            self.call(Call::Deadline, [0, 0]);
-            if self.machine.answer().words[1] == 0 {
-                return;
-            }
-            self.now = layout::time_at(&self.machine.answer().words, 2);
-            self.call(Call::Advance, [0, 0]);
-        }
-    }
-    fn levels(&mut self, scl: bool, sda: bool) {
-        self.call(Call::InputPins, [u64::from(scl), u64::from(sda)]);
-        self.settle();
-    }
-    /// A start and a byte, high bit first, up to the fall behind the last bit.
-    fn send(&mut self, byte: u8) {
-        self.levels(true, false);
-        self.levels(false, false);
-        for bit in (0..8).rev() {
-            let sda = byte >> bit & 1 != 0;
-            [false, true, false].into_iter().for_each(|scl| self.levels(scl, sda));
-        }
-    }
-    fn register(&self, place: usize) -> u64 {
-        self.machine.state()[place]
-    }
+/// The state after calls from the default, all of which end alike in both builds and the port.
+fn alike(play: impl FnOnce(&mut Stage) -> Option<()>) -> State {
+    let (set, mut tally) = (plain_set(0, DEFAULT), Tally::default());
+    let mut trial = Trial::fresh(set, &mut tally).unwrap();
+    play(&mut Stage::new(&mut trial, system(&set), 0)).expect("a difference");
+    let state = *trial.state();
+    assert!(tally.partings.is_empty());
+    state
 }
 
 /// A slave with own address 00: the START byte 01 selects it, turns it to transmit and is acknowledged.
 #[test]
 fn start_byte() {
-    let mut slave = Alike::new();
-    slave.call(Call::SetGate, [1, 0]);
-    slave.call(Call::Write, [0, 0x80]);
-    slave.send(0x01);
-    assert_eq!(slave.register(iic::ADDRESS), 0x00);
-    assert_eq!(slave.register(iic::STATUS), 0x82);
-    assert_eq!(slave.register(iic::CONTROL), 0x90);
-    assert_eq!(slave.register(iic::SELECTED), 1);
-    assert_eq!(slave.machine.state()[iic::DRIVE..iic::RAW], [1, 0]);
+    let after_start_byte = |own: u64| {
+        alike(|slave| {
+            slave.gate(1)?;
+            slave.write(5, own)?;
+            slave.write(0, 0x80)?;
+            slave.start()?;
+            slave.bits(0x01, 8)
+        })
+    };
+    let places = [iic::STATUS, iic::CONTROL, iic::SELECTED, iic::DRIVE, iic::DRIVE + 1];
+    assert_eq!(places.map(|place| after_start_byte(0x00)[place]), [0x82, 0x90, 1, 1, 0]);
     // With any other own address nobody pulls SDA.
-    let mut slave = Alike::new();
-    slave.call(Call::SetGate, [1, 0]);
-    slave.call(Call::Write, [5, 0xa0]);
-    slave.call(Call::Write, [0, 0x80]);
-    slave.send(0x01);
-    assert_eq!([iic::STATUS, iic::CONTROL, iic::SELECTED].map(|place| slave.register(place)), [0, 0x80, 0]);
-    assert_eq!(slave.machine.state()[iic::DRIVE..iic::RAW], [1, 1]);
+    assert_eq!(places.map(|place| after_start_byte(0xa0)[place]), [0x00, 0x80, 0, 1, 1]);
 }
 
 /// Seconds and fraction, call and operands; then the end and the levels, as in the page.
@@ -116,19 +83,21 @@ fn refused_idle_visit() {
         (0x9be0_06d3_a06d_3a06, Call::Advance, [0, 0], "v", "7\t-\t11"),
         (0x9be0_06d3_a06d_3a07, Call::Advance, [0, 0], "v", "7\t-\t01"),
     ];
-    let mut host = Alike::new();
     let (mut trace, mut answers) = (String::new(), String::new());
-    for (place, (fraction, call, operands, line, answer)) in calls.into_iter().enumerate() {
-        host.now = layout::joined(SECONDS, fraction);
-        if place == 4 {
-            // Idle: no wait is due, since none is left; and there is a frame already.
-            let waits = [iic::FILTER_WAIT, iic::SETUP_WAIT, iic::MONITOR_WAIT, iic::CLOCK_WAIT, iic::FRAME];
-            assert_eq!(waits.map(|place| host.register(place)), [0, 0, 0, 0, 1]);
+    alike(|host| {
+        for (place, (fraction, call, operands, line, answer)) in calls.into_iter().enumerate() {
+            host.now = layout::joined(SECONDS, fraction);
+            if place == 4 {
+                // Idle: no wait is due, since none is left; and there is a frame already.
+                let waits = [iic::FILTER_WAIT, iic::SETUP_WAIT, iic::MONITOR_WAIT, iic::CLOCK_WAIT, iic::FRAME];
+                assert_eq!(waits.map(|place| host.state()[place]), [0, 0, 0, 0, 1]);
+            }
+            host.call(call, operands)?;
+            trace += &format!("{SECONDS}\t{fraction:016x}\t{line}\n");
+            answers += &format!("{}\t{answer}\t00\n", place + 1);
         }
-        host.call(call, operands);
-        trace += &format!("{SECONDS}\t{fraction:016x}\t{line}\n");
-        answers += &format!("{}\t{answer}\t00\n", place + 1);
-    }
+        Some(())
+    });
     assert_eq!(String::from_utf8(plain_player::play(trace.as_bytes(), 1000).bytes).unwrap(), answers);
 }
 
