@@ -9,7 +9,8 @@ use words::layout::{self, Set};
 
 /// How the plain build, the checked one and the port end a call.
 pub type Ends = [End; 3];
-/// A clock set as the checked build holds it.
+/// A clock set as either build holds it.
+type PlainSet = <reference::Bridge as Reference>::Set;
 type CheckedSet = <checked::Bridge as Reference>::Set;
 
 const DONE: End = End::Done;
@@ -60,6 +61,13 @@ impl<C: PartialEq, W> Row<C, W> {
         let ends = self.ends.iter().find(|ends| ends[..2] == [plain, checked])?;
         Some(Parting { row: self.name, end: ends[2], like: self.like })
     }
+}
+
+/// Every call and its ends that the rows of a table allow.
+#[cfg(test)]
+fn allowed<C: Copy, W>(rows: &'static [Row<C, W>]) -> Vec<(&'static str, C, Ends)> {
+    let of_call = |row: &'static Row<C, W>, call: C| row.ends.iter().map(move |ends| (row.name, call, *ends));
+    rows.iter().flat_map(|row| row.calls.iter().flat_map(move |call| of_call(row, *call))).collect()
 }
 
 /// The row for a refusal that the Rust doesn't have, and before which it isn't asked.

@@ -135,7 +135,7 @@ fn added(function: &Function, words: &Set, args: &Args) -> Option<u8> {
 #[cfg(test)]
 mod tests {
     use super::*;
-    use crate::inputs::grid;
+    use crate::inputs::{grid, plain_set};
     use std::collections::BTreeSet;
     use traffic::random::Random;
     use words::calls;
@@ -197,8 +197,71 @@ mod tests {
                 }
             });
         }
-        for row in functions::names().chain([1, 3].map(differences::row_added)) {
+        for number in [1, 3] {
+            let row = differences::row_added(number);
             assert!(seen.iter().any(|(_, _, met)| *met == Some(row)), "{row} never came up");
         }
+    }
+
+    /// A set about the start of the system clock, or held before it, or so fast that its counts end, with full prescalers.
+    fn set_near_a_row(random: &mut Random) -> Set {
+        let main = random.pick(&[3_686_400, 3_686_400, u64::MAX]);
+        let mut set = plain_set(0, [main, 32_768, 1_310_720]);
+        set[0] = u64::from(random.once_in(4));
+        set[4] = u64::from(!random.once_in(4));
+        set[layout::AT_S + layout::DIVIDER..layout::AT_W].fill(u64::MAX);
+        set[layout::AT_W + layout::DIVIDER..].fill(u64::MAX);
+        set
+    }
+
+    /// Arguments near a row: on edges at which full sums wrap, with few edges to go, or as many as there are.
+    fn arguments_near_a_row(random: &mut Random, function: &Function) -> Args {
+        let mut args = [0; layout::ARGS];
+        let mut at = 0;
+        for kind in function.takes {
+            let edge = |n: u64| [0, ((u128::from(n) << 64) / 3_686_400) as u64];
+            let mut time = random.pick(&[[0, 0], edge(2), edge(4), [0, 8 << 49], [0, 16 << 49], [1, 0]]);
+            time[1] += random.below(2);
+            let tap = random.pick(&[[0, 1], [0, 2], [2, 8], [1, 0], [5, 1]]);
+            let count = random.pick(&[0, 1, u64::MAX]);
+            let out = &mut args[at..at + kind.words()];
+            match kind {
+                Kind::Time => out.copy_from_slice(&time),
+                Kind::Tap => out.copy_from_slice(&tap),
+                Kind::Wait => {
+                    let state = random.pick(&[[0, count, 0], [1, count, 0], [2, time[0], time[1]]]);
+                    out.copy_from_slice(&[&tap[..], &state].concat());
+                }
+                Kind::PrescalerS | Kind::PrescalerW => {
+                    out[2..].fill(u64::MAX);
+                    out[2] = 1;
+                }
+                Kind::Stage => out[0] = 1,
+                Kind::Parent => out[0] = 2,
+                _ => out[0] = count,
+            }
+            at += kind.words();
+        }
+        args
+    }
+
+    /// Near the rows of the table the port does as they say, and every row is met, with each of its calls and ends.
+    #[test]
+    fn every_row_is_met() {
+        crate::report::hide_traps();
+        let mut random = Random::new(1);
+        let mut missing = functions::allowed();
+        let called: Vec<&Function> =
+            calls::CLOCKS.iter().filter(|function| missing.iter().any(|(_, call, _)| *call == function.call)).collect();
+        for _ in 0..1_000_000 {
+            let function = random.pick(&called);
+            let (set, args) = (set_near_a_row(&mut random), arguments_near_a_row(&mut random, function));
+            let mut judge = Judge::new();
+            let expected = judge.run(function, &set, &sets(&set), &args);
+            assert!(judge.agrees(function, &args, expected), "{} {args:x?} over {set:x?}", function.name);
+            let (row, met) = (expected.row(), judge.ends(expected));
+            missing.retain(|(name, call, ends)| (Some(*name), *call, ends.map(Some)) != (row, function.call, met));
+        }
+        assert!(missing.is_empty(), "never met: {missing:?}");
     }
 }

@@ -135,8 +135,8 @@ fn prescaler_sum(call: Call, handed: &Handed) -> bool {
     handed.set.is_some_and(|set| sum_too_large(set, tap, now))
 }
 
-/// The names of the rows.
+/// Every call and its ends that a row allows.
 #[cfg(test)]
-pub fn names() -> impl Iterator<Item = &'static str> {
-    ROWS.iter().map(|row| row.name)
+pub fn allowed() -> Vec<(&'static str, Call, Ends)> {
+    super::allowed(ROWS)
 }

@@ -1,8 +1,8 @@
 //! The rows for the peripheral.
-use super::{before_start, held_before_start, sum_too_large, CheckedSet, Ends, Like, Parting, Row};
+use super::{before_start, held_before_start, sum_too_large, CheckedSet, Ends, Like, Parting, PlainSet, Row};
 use super::{BELOW_ZERO, BY_ZERO, DONE, EIGHT, SEVEN, TOO_LARGE, TWO};
-use words::calls::End;
-use words::iic::{self, Call, State};
+use words::calls::{Answer, End};
+use words::iic::{self, Call, Peripheral, State};
 use words::layout::{self, Args, Set};
 
 /// Where a run begins: at the default, or at a state made at random that `validate` accepts or refuses.
@@ -18,7 +18,8 @@ pub struct Handed<'a> {
     pub origin: Origin,
     pub state: &'a State,
     pub words: &'a Set,
-    pub set: &'a CheckedSet,
+    pub plain_set: &'a PlainSet,
+    pub checked_set: &'a CheckedSet,
     pub args: &'a Args,
 }
 
@@ -47,7 +48,14 @@ const ROWS: &[Row<Call, When>] = &[
         calls: &[Call::SetGate],
         ends: &[[DONE, BELOW_ZERO, SEVEN], [SEVEN, BELOW_ZERO, SEVEN], [EIGHT, BELOW_ZERO, SEVEN]],
         like: Like::PlainUpToTheSum,
-        when: When { origins: MADE, holds: |handed| (early(handed) || held(handed)) && at_the_sum(handed).is_some() },
+        when: When { origins: MADE, holds: sum_after_a_level },
+    },
+    Row {
+        name: "prescaler_sum_after_a_level",
+        calls: &[Call::SetGate],
+        ends: &[[TWO, BELOW_ZERO, SEVEN]],
+        like: Like::PlainUpToTheSum,
+        when: When { origins: REFUSED, holds: sum_after_a_level },
     },
     Row {
         name: "times_before_the_start",
@@ -112,6 +120,13 @@ const ROWS: &[Row<Call, When>] = &[
         like: Like::Checked,
         when: When { origins: MADE, holds: |handed| at_the_sum(handed).is_some() },
     },
+    Row {
+        name: "prescaler_sum_of_a_wait",
+        calls: &[Call::SetGate],
+        ends: &[[TWO, TOO_LARGE, SEVEN]],
+        like: Like::Checked,
+        when: When { origins: REFUSED, holds: |handed| at_the_sum(handed).is_some() },
+    },
 ];
 
 /// The parting that a row allows where both builds of the Rust end a call so.
@@ -130,6 +145,11 @@ fn held(handed: &Handed) -> bool {
     held_before_start(layout::domain(handed.words, 0))
 }
 
+/// Whether a sum passes 64 bits behind a prescaler, after a level that the checked build can't tell.
+fn sum_after_a_level(handed: &Handed) -> bool {
+    (early(handed) || held(handed)) && plain_up_to_the_sum(handed).is_some()
+}
+
 /// The words of a wait that is there.
 fn wait(state: &State, place: usize) -> Option<&[u64]> {
     (state[place] != 0).then(|| &state[place + 1..][..layout::WAIT])
@@ -143,17 +163,49 @@ fn has_divider_zero(handed: &Handed) -> bool {
         .any(|wait| wait[1] == 0)
 }
 
-/// The place of the first paused wait that a gate, opened, would go on with behind a prescaler whose sum passes 64 bits.
-pub fn at_the_sum(handed: &Handed) -> Option<usize> {
+/// The place of the first paused wait that a gate, opened, would go on with behind a prescaler whose sum passes 64 bits. One with
+/// the divider 0 before it ends the call there.
+fn at_the_sum(handed: &Handed) -> Option<usize> {
     const PAUSED: u64 = 1;
     let now = layout::time_at(handed.args, 0);
-    let fails = |wait: &[u64]| wait[2] == PAUSED && wait[3] != 0 && sum_too_large(handed.set, wait, now);
     let places = if handed.args[2] == 0 { &[][..] } else { &[iic::FILTER_WAIT, iic::SETUP_WAIT] };
-    places.iter().copied().find(|place| wait(handed.state, *place).is_some_and(fails))
+    let ends_the_call = |place: &usize| {
+        wait(handed.state, *place).is_some_and(|wait| {
+            wait[2] == PAUSED && (wait[1] == 0 || wait[3] != 0 && sum_too_large(handed.checked_set, wait, now))
+        })
+    };
+    let first = places.iter().copied().find(ends_the_call)?;
+    (handed.state[first + 2] != 0).then_some(first)
+}
+
+/// The state in which the plain build comes to such a wait, where it does: the call is made without that wait and those after it,
+/// and not enabled, so that it ends there.
+pub fn plain_up_to_the_sum(handed: &Handed) -> Option<Vec<u64>> {
+    const ENABLED: u64 = 0x80;
+    let first = at_the_sum(handed)?;
+    let later = [iic::FILTER_WAIT, iic::SETUP_WAIT].into_iter().filter(|place| *place >= first);
+    let mut state = *handed.state;
+    state[iic::CONTROL] &= !ENABLED;
+    later.clone().for_each(|place| state[place] = 0);
+    let mut plain = reference::Bridge::state(&state);
+    let (mut answer, mut left) = (Answer::empty(), Vec::new());
+    reference::Bridge::call(Call::SetGate, &mut plain, handed.plain_set, handed.args, &mut answer);
+    reference::Bridge::words(&plain, &mut left);
+    left[iic::CONTROL] = handed.state[iic::CONTROL];
+    for place in later {
+        left[place..=place + layout::WAIT].copy_from_slice(&handed.state[place..=place + layout::WAIT]);
+    }
+    (answer.end == DONE).then_some(left)
 }
 
 /// The names of the rows, and whether a run from the default can meet them.
 #[cfg(test)]
 pub fn names() -> impl Iterator<Item = (&'static str, bool)> {
     ROWS.iter().map(|row| (row.name, row.when.origins.contains(&Origin::Default)))
+}
+
+/// Every call and its ends that a row allows.
+#[cfg(test)]
+pub fn allowed() -> Vec<(&'static str, Call, Ends)> {
+    super::allowed(ROWS)
 }

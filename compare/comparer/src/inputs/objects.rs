@@ -93,30 +93,30 @@ pub fn frequencies(random: &mut Random) -> [u64; layout::FREQUENCIES] {
     })
 }
 
-/// A set as `Clocks::new` makes it, that with prescalers in use, or six domains and two prescalers of any kind; now and then
-/// with a damaged clock.
+/// A set as `Clocks::new` makes it, that with prescalers of any kind, or six domains and two prescalers of any kind; now and
+/// then with a damaged clock.
 pub fn set(random: &mut Random) -> Set {
-    let fresh = random.once_in(4);
-    let mut set = if fresh {
-        let frequencies = frequencies(random).map(|hz| hz.max(1));
-        plain_set(numbers::start(random), frequencies)
-    } else {
-        any_domains(random)
-    };
-    if !fresh || random.once_in(4) {
-        prescaler(random, layout::STAGES_S, &mut set[layout::AT_S..layout::AT_W]);
-        prescaler(random, layout::STAGES_W, &mut set[layout::AT_W..]);
-    }
-    set
-}
-
-/// A set whose domains have nothing to do with one another.
-fn any_domains(random: &mut Random) -> Set {
-    let mut set = [0; layout::SET];
     let damaged = random.once_in(25);
     let broken = random.below(layout::DOMAINS as u64) as usize;
+    let fresh = random.once_in(4);
+    let frequencies = frequencies(random).map(|hz| hz.max(1));
+    let start = numbers::start(random);
+    let set = if fresh { plain_set(start, frequencies) } else { any_domains(random, damaged.then_some(broken)) };
+    let mut used = set;
+    prescaler(random, layout::STAGES_S, &mut used[layout::AT_S..layout::AT_W]);
+    prescaler(random, layout::STAGES_W, &mut used[layout::AT_W..]);
+    if fresh && !random.once_in(4) {
+        set
+    } else {
+        used
+    }
+}
+
+/// Domains that have nothing to do with one another, one of them damaged or none.
+fn any_domains(random: &mut Random, broken: Option<usize>) -> Set {
+    let mut set = [0; layout::SET];
     for source in 0..layout::DOMAINS {
-        let words = domain(random, damaged && source == broken);
+        let words = domain(random, broken == Some(source));
         set[source * layout::DOMAIN..][..layout::DOMAIN].copy_from_slice(&words);
     }
     set

@@ -8,7 +8,7 @@ use crate::inputs::{plain_set, FREQUENCIES};
 use crate::judge;
 use words::calls::{Answer, End, Reference};
 use words::iic::{self, Call, Peripheral, State};
-use words::layout::{Args, Set, WAIT};
+use words::layout::{Args, Set};
 
 type Plain = reference::Bridge;
 type Checked = checked::Bridge;
@@ -79,8 +79,8 @@ impl Machine {
     /// One in a state that is made; `validate` accepts it at that time or not.
     pub fn made(state: &State, set: &ClockSet, args: &Args) -> Self {
         let mut machine = Self::new(state, Origin::Accepted);
-        let [_, answer, _] = &mut machine.answers;
-        Plain::call(Call::Validate, &mut machine.plain, &set.plain, args, answer);
+        let [_, _, answer] = &mut machine.answers;
+        Checked::call(Call::Validate, &mut machine.checked, &set.checked, args, answer);
         if answer.end != End::Done {
             machine.origin = Origin::Refused;
         }
@@ -145,12 +145,13 @@ impl Machine {
             self.like_plain(call)?;
             return self.like_checked(call);
         }
-        let handed = Handed { origin: self.origin, state: before, words: &set.words, set: &set.checked, args };
+        let (plain_set, checked_set) = (&set.plain, &set.checked);
+        let handed = Handed { origin: self.origin, state: before, words: &set.words, plain_set, checked_set, args };
         let Some(parting) = rows::parting(call, &handed, plain, checked) else {
             return differs(call, format!("no row of docs/DIFFERENCES.md: plain {plain:?}, checked {checked:?}"));
         };
         self.parted.push(Parted { call, ends: [plain, checked, port].map(Some), row: parting.row });
-        self.parts(call, parting, set, &handed)
+        self.parts(call, parting, &handed)
     }
 
     /// Whether a side ended as the checked build did, and answered the same words.
@@ -165,7 +166,7 @@ impl Machine {
     }
 
     /// Whether the port did as the row has it. A build whose state isn't what the row wants is given the port's.
-    fn parts(&mut self, call: Call, parting: Parting, set: &ClockSet, handed: &Handed) -> Result<(), Difference> {
+    fn parts(&mut self, call: Call, parting: Parting, handed: &Handed) -> Result<(), Difference> {
         let [port, plain, _] = &self.answers;
         if port.end != parting.end {
             return differs(call, format!("{:?} expected by {}, port {:?}", parting.end, parting.row, port.end));
@@ -181,8 +182,8 @@ impl Machine {
             Like::Plain => self.like_plain(call)?,
             Like::Checked => self.like_checked(call)?,
             Like::PlainUpToTheSum => {
-                plain_up_to_the_sum(set, handed, &mut self.left);
-                same_state(call, "plain up to the sum", &self.left, &self.port)?;
+                let left = rows::plain_up_to_the_sum(handed).expect("the row holds where the call comes to the sum");
+                same_state(call, "plain up to the sum", &left, &self.port)?;
             }
         }
         self.plain = Plain::state(&self.port);
@@ -199,24 +200,6 @@ impl Machine {
     fn like_checked(&mut self, call: Call) -> Result<(), Difference> {
         Checked::words(&self.checked, &mut self.left);
         same_state(call, "checked", &self.left, &self.port)
-    }
-}
-
-/// The state in which the plain build comes to a wait behind a prescaler whose sum passes 64 bits, as the gate is opened: without
-/// that wait and those after it, and not enabled, so that the call ends there.
-fn plain_up_to_the_sum(set: &ClockSet, handed: &Handed, left: &mut Vec<u64>) {
-    const ENABLED: u64 = 0x80;
-    let first = rows::at_the_sum(handed).expect("the row holds where there is such a wait");
-    let later = [iic::FILTER_WAIT, iic::SETUP_WAIT].into_iter().filter(|place| *place >= first);
-    let mut state = *handed.state;
-    state[iic::CONTROL] &= !ENABLED;
-    later.clone().for_each(|place| state[place] = 0);
-    let mut plain = Plain::state(&state);
-    Plain::call(Call::SetGate, &mut plain, &set.plain, handed.args, &mut Answer::empty());
-    Plain::words(&plain, left);
-    left[iic::CONTROL] = handed.state[iic::CONTROL];
-    for place in later {
-        left[place..=place + WAIT].copy_from_slice(&handed.state[place..=place + WAIT]);
     }
 }
 

@@ -205,6 +205,11 @@ fn prescaler_sum_of_a_wait() {
         state[iic::GATE] = 1;
         assert_eq!(left.port, state);
     }
+    // Plain goes on after the wrap, to a setup wait with the divider 0.
+    let mut state = port::iic::fresh();
+    put_wait(&mut state, iic::FILTER_WAIT, [SYSTEM_2[0], SYSTEM_2[1], PAUSED, TOP, 0]);
+    put_wait(&mut state, iic::SETUP_WAIT, [1, 0, PAUSED, 0, 0]);
+    check(ROW, Call::SetGate, &state, &set, &args([0, system_edge(2)], [1, 0]), ["2", TOO_LARGE, "7"]);
 }
 
 /// Before the start of the system clock, or where it is held before it: a half wait can't go on or be stopped, or a wait
@@ -309,6 +314,11 @@ fn prescaler_sum_after_a_level() {
         put_half(&mut state, 1, false);
         assert_eq!(left.port, state);
     }
+    let mut state = port::iic::fresh();
+    put_half(&mut state, 0, true);
+    put_wait(&mut state, iic::FILTER_WAIT, [2, 8, PAUSED, TOP, 0]);
+    put_wait(&mut state, iic::SETUP_WAIT, [1, 0, PAUSED, 0, 0]);
+    check(ROW, Call::SetGate, &state, &set, &args([0, 8 << (64 - 15)], [1, 0]), ["2", BELOW_ZERO, "7"]);
 }
 
 /// A clock that holds a zero draws 1 at each call that is handed the set, first of all and without a change.

@@ -6,7 +6,7 @@ use std::collections::BTreeSet;
 use traffic::host::Host;
 use traffic::random::Random;
 use words::calls::Trap;
-use words::layout;
+use words::layout::{self, WAIT};
 
 /// A call on a state that is made.
 struct Case {
@@ -30,6 +30,42 @@ impl Case {
         if call == Call::SetGate {
             args[2] = 1 - state[iic::GATE];
         }
+        Self { set: ClockSet::new(set), state, call, args }
+    }
+
+    /// One that may meet a row: about the start of the system clock, or held before it, with full prescalers and waits that
+    /// have few half counts or edges to go, or nearly as many as there are.
+    fn near_a_row(random: &mut Random) -> Self {
+        let mut set = plain_set(0, FREQUENCIES);
+        set[0] = random.below(2);
+        set[4] = u64::from(!random.once_in(4));
+        for stages in [layout::AT_S + layout::DIVIDER..layout::AT_W, layout::AT_W + layout::DIVIDER..layout::SET] {
+            set[stages].fill_with(|| random.pick(&[u64::MAX, 1]));
+        }
+        // The watch clock's eighth and sixteenth edge, and times at which it has none.
+        let now = [0, random.pick(&[0, 1, 8 << 49, 16 << 49])];
+        let mut state = states::random(random, &set, layout::time_at(&now, 0));
+        state[iic::MODE] &= 0xc0;
+        state[iic::COUNT] &= 7;
+        for place in [iic::CLOCK_WAIT, iic::MONITOR_WAIT] {
+            let half = [1, random.pick(&[0, 1, 2, u64::MAX]), random.below(2)];
+            state[place..place + 3].copy_from_slice(if random.once_in(3) { &[0; 3] } else { &half });
+        }
+        for place in [iic::FILTER_WAIT, iic::SETUP_WAIT] {
+            let [source, divide] = random.pick(&[[0, 1], [0, 2], [2, 8], [1, 0]]);
+            let target = random.pick(&[0, 1, 2, u64::MAX]);
+            let wait = random.pick(&[[0, target, 0], [1, target, 0], [2, now[0], now[1]]]);
+            let words = [1, source, divide, wait[0], wait[1], wait[2]];
+            state[place..=place + WAIT].copy_from_slice(if random.once_in(3) { &[0; 1 + WAIT] } else { &words });
+        }
+        let (call, operands) = match random.below(6) {
+            0 => (Call::Advance, [0, 0]),
+            1 => (Call::Read, [7, 0]),
+            2 => (Call::Write, [random.below(8), random.below(256)]),
+            _ => (Call::SetGate, [1 - state[iic::GATE], 0]),
+        };
+        let mut args = [0; layout::ARGS];
+        args[..4].copy_from_slice(&[now[0], now[1], operands[0], operands[1]]);
         Self { set: ClockSet::new(set), state, call, args }
     }
 
@@ -140,4 +176,21 @@ fn each_change_at_a_sum_is_a_difference() {
         assert!(right && machine.parted[0].row == row);
         changes_of_the_port(&case, End::Refused(7));
     }
+}
+
+/// Near the rows of the table the port does as they say, and every row is met, with each of its calls and ends.
+#[test]
+fn every_row_is_met() {
+    crate::report::hide_traps();
+    let mut random = Random::new(1);
+    let mut missing = rows::allowed();
+    for _ in 0..500_000 {
+        let case = Case::near_a_row(&mut random);
+        let (machine, right) = case.judged(&|_| {});
+        assert!(right, "{:?} {:x?} on {:x?} over {:x?}", case.call, case.args, case.state, case.set.words);
+        for parted in machine.parted {
+            missing.retain(|(row, call, ends)| (*row, *call, ends.map(Some)) != (parted.row, parted.call, parted.ends));
+        }
+    }
+    assert!(missing.is_empty(), "never met: {missing:?}");
 }
