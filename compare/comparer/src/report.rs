@@ -69,7 +69,9 @@ impl Tally {
             End::Refused(number) => match NUMBERS.iter().position(|n| *n == number) {
                 Some(place) => self.refused[place] += 1,
                 None => {
-                    println!("difference: {number}, a refusal that no function draws");
+                    if agrees {
+                        println!("difference: {number}, a refusal that no function draws");
+                    }
                     differs = true;
                 }
             },

@@ -94,7 +94,8 @@ impl Run {
         println!("  set: {}", hex(&self.set));
         println!("  state: {}", hex(&self.state));
         for (call, args) in &self.steps {
-            println!("  {}:{:016x} {call:?} {:x} {:x}", args[0], args[1], args[2], args[3]);
+            print!("  {}:{:016x} {call:?} {:x} {:x}", args[0], args[1], args[2], args[3]);
+            println!("; then the questions, with {:x} peeked at and {:x} retained", args[PEEKED], args[RETAINED]);
         }
         let again = self.difference();
         let difference = again.as_ref().map_or(found, |(_, difference)| difference);
@@ -104,4 +105,24 @@ impl Run {
 
 fn hex(words: &[u64]) -> String {
     words.iter().map(|word| format!("{word:x}")).collect::<Vec<_>>().join(" ")
+}
+
+#[cfg(test)]
+mod tests {
+    use super::*;
+    use std::collections::BTreeSet;
+
+    /// From step to step both what is peeked at and what is retained change, and take on all values.
+    #[test]
+    fn questions_vary() {
+        let asked = |number: u64| {
+            let mut args = [0; words::layout::ARGS];
+            put_questions(number, &mut args);
+            assert_eq!((args[PEEKED] & 7, args[PEEKED] >> 16, args[RETAINED] >> 8), (0, 0, 0));
+            [args[PEEKED], args[RETAINED]]
+        };
+        let distinct = |place: usize| (0..100_000).map(|number| asked(number)[place]).collect::<BTreeSet<_>>().len();
+        assert_eq!([0, 1].map(distinct), [1 << 13, 1 << 8]);
+        assert!((0..1000).all(|number| asked(number) != asked(number + 1)));
+    }
 }
