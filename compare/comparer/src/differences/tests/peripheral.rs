@@ -7,7 +7,8 @@ use crate::peripheral::scenes::Stage;
 use crate::peripheral::system;
 use crate::peripheral::tally::Tally;
 use crate::peripheral::trial::Trial;
-use words::calls::{Answer, Reference};
+use traffic::exact;
+use words::calls::{Answer, End, Reference, Trap};
 use words::iic::{self, Call, Peripheral, State};
 use words::layout::{self, Args, Set};
 
@@ -258,6 +259,54 @@ fn refused_before_the_start() {
         let row = if ends[0] == "7" { ROW } else { "times_before_the_start" };
         state = check(row, call, &state, &set, &args([0, 0], operands), ends).port;
     }
+}
+
+/// Calls from the default, each at a time of its own, and the row and the ends of the last one.
+fn last_from_the_default(set: Set, calls: &[(u128, Call, [u64; 2])]) -> (&'static str, [Option<End>; 3]) {
+    let set = ClockSet::new(set);
+    let mut machine = Machine::fresh().unwrap();
+    for (now, call, operands) in calls {
+        machine.parted.clear();
+        machine.call(*call, &set, &args(layout::halves(*now), *operands)).unwrap();
+    }
+    let parted = machine.parted.pop().expect("the last call parts");
+    (parted.row, parted.ends)
+}
+
+/// From the default, with times that go back: a wait with no edge to go is ready at a time before the clock's start.
+#[test]
+fn refused_before_the_start_from_the_default() {
+    let refused = |number: u8| [End::Refused(number), End::Trapped(Trap::Subtract), End::Refused(number)].map(Some);
+    // The gate off, one unit after the filter wait was ready.
+    let set = plain_set(2, DEFAULT);
+    let edge = exact::edge(&system(&set), 1);
+    let shut = [
+        (0, Call::SetGate, [1, 0]),
+        (0, Call::Write, [0, 0xb0]),
+        (0, Call::InputPins, [0, 1]),
+        (edge, Call::SetGate, [0, 0]),
+        (0, Call::SetGate, [1, 0]),
+        (0, Call::Write, [1, 0x90]),
+        (1, Call::SetGate, [0, 0]),
+    ];
+    assert_eq!(last_from_the_default(set, &shut), ("refused_before_the_start", refused(8)));
+    // SCL falls in a frame, and a command that waits for that starts a clock wait, whose half count has no time: the clock
+    // starts so late that it has an edge 6 and none after it.
+    let set = plain_set(u128::MAX - exact::edge(&system(&plain_set(0, DEFAULT)), 6), DEFAULT);
+    let [edge, second] = [1, 2].map(|n| exact::edge(&system(&set), n));
+    let ready = [(edge, Call::SetGate, [0, 0]), (0, Call::SetGate, [1, 0]), (0, Call::Advance, [0, 0])];
+    let begun = [
+        (0, Call::SetGate, [1, 0]),
+        (0, Call::Write, [0, 0x80]),
+        (0, Call::InputPins, [1, 0]),
+        (edge, Call::Advance, [0, 0]),
+        (second, Call::Advance, [0, 0]),
+        (0, Call::Write, [0, 0xa0]),
+        (0, Call::Write, [1, 0x90]),
+        (0, Call::InputPins, [0, 0]),
+    ];
+    let falls = [&begun[..], &ready, &ready].concat();
+    assert_eq!(last_from_the_default(set, &falls), ("refused_before_the_start", refused(7)));
 }
 
 /// The system clock stands still, held at time 0, and starts a unit later: what holds before its start holds at any time.
