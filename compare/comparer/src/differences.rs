@@ -1,147 +1,112 @@
-//! docs/DIFFERENCES.md, row by row: how the plain build of the Rust, the checked one and the port end just the call that the
-//! page names.
-mod peripheral;
-use crate::inputs::{plain_set, FREQUENCIES as DEFAULT};
-use crate::judge;
-use words::calls::{self, Answer, Call, End, Reference};
+//! docs/DIFFERENCES.md as tables: the only calls that the port and the two builds of the Rust may end in ways that aren't the
+//! same. A parting that no row allows is a difference.
+pub mod functions;
+pub mod peripheral;
+#[cfg(test)]
+mod tests;
+use words::calls::{Answer, Call, End, Reference, Trap};
 use words::layout::{self, Set};
 
-const FASTEST: [u64; 3] = [u64::MAX, 32_768, 1_310_720];
-/// Source and divider.
-const SYSTEM_1: [u64; 2] = [0, 1];
-const SYSTEM_2: [u64; 2] = [0, 2];
-const CPU_0: [u64; 2] = [1, 0];
-const RUNNING: u64 = 0;
-const PAUSED: u64 = 1;
-const BELOW_ZERO: &str = "trapped (Subtract)";
-const TOO_LARGE: &str = "trapped (Overflow)";
-const BY_ZERO: &str = "trapped (Divide)";
-const NO_PLACE: &str = "trapped (Index)";
+/// How the plain build, the checked one and the port end a call.
+pub type Ends = [End; 3];
+/// A clock set as either build holds it.
+type PlainSet = <reference::Bridge as Reference>::Set;
+type CheckedSet = <checked::Bridge as Reference>::Set;
 
-/// The number of a refusal, "trapped", or "answered" and the words of the answer.
-fn seen(answer: &Answer, gives: usize) -> String {
-    match answer.end {
-        End::Done => format!("answered {:?}", &answer.words[1..=gives]),
-        End::Refused(number) => number.to_string(),
-        End::Trapped(trap) => format!("trapped ({trap:?})"),
+const DONE: End = End::Done;
+const BELOW_ZERO: End = End::Trapped(Trap::Subtract);
+const TOO_LARGE: End = End::Trapped(Trap::Overflow);
+const BY_ZERO: End = End::Trapped(Trap::Divide);
+const TWO: End = End::Refused(2);
+const SEVEN: End = End::Refused(7);
+const EIGHT: End = End::Refused(8);
+
+/// Whose answer and state the port must have at a parting.
+#[derive(Clone, Copy, PartialEq, Eq, Debug)]
+pub enum Like {
+    /// Those of both builds, which agree.
+    Both,
+    Plain,
+    Checked,
+    /// The state of the plain build up to a sum of a prescaler that wraps there; the checked build ended before it.
+    PlainUpToTheSum,
+}
+
+/// A parting that a row allows.
+#[derive(Clone, Copy, PartialEq, Eq, Debug)]
+pub struct Parting {
+    /// The test that keeps the row, by which the page names it.
+    pub row: &'static str,
+    /// How the port ends the call.
+    pub end: End,
+    pub like: Like,
+}
+
+/// A row of a table. The calls are those of the functions or those of the peripheral, the condition tells what must be so of
+/// the input besides.
+struct Row<C: 'static, W> {
+    name: &'static str,
+    calls: &'static [C],
+    ends: &'static [Ends],
+    like: Like,
+    when: W,
+}
+
+impl<C: PartialEq, W> Row<C, W> {
+    /// What the row has the port do where the plain build and the checked one end a call so.
+    fn parting(&self, call: C, plain: End, checked: End) -> Option<Parting> {
+        if !self.calls.contains(&call) {
+            return None;
+        }
+        let ends = self.ends.iter().find(|ends| ends[..2] == [plain, checked])?;
+        Some(Parting { row: self.name, end: ends[2], like: self.like })
     }
 }
 
-/// The ends of a call in the plain build, the checked one and the port.
-fn check(call: Call, set: &Set, given: &[u64], expected: [&str; 3]) {
-    let function = calls::TIME.iter().chain(calls::CLOCKS).find(|f| f.call == call).unwrap();
+/// Every call and its ends that the rows of a table allow.
+#[cfg(test)]
+fn allowed<C: Copy, W>(rows: &'static [Row<C, W>]) -> Vec<(&'static str, C, Ends)> {
+    let of_call = |row: &'static Row<C, W>, call: C| row.ends.iter().map(move |ends| (row.name, call, *ends));
+    rows.iter().flat_map(|row| row.calls.iter().flat_map(move |call| of_call(row, *call))).collect()
+}
+
+/// The row for a refusal that the Rust doesn't have, and before which it isn't asked.
+pub fn row_added(number: u8) -> &'static str {
+    match number {
+        1 => "a_clock_with_a_zero",
+        3 => "stage_out_of_range",
+        9 => "count_or_mode_out_of_range",
+        10 => "a_frame_without_bits_to_go",
+        _ => unreachable!("no refusal {number} is added to the Rust's"),
+    }
+}
+
+/// Whether the level of a domain's clock at a time is found by a difference below zero: a running one before its start.
+fn before_start(domain: &[u64], now: u128) -> bool {
+    domain[4] != 0 && now < layout::time_at(domain, 0)
+}
+
+/// The same of a stopped one, whose level is that at the time at which it is held.
+fn held_before_start(domain: &[u64]) -> bool {
+    domain[4] == 0 && layout::time_at(domain, 5) < layout::time_at(domain, 0)
+}
+
+/// The checked build's count of a tap's edges at a time.
+fn ticks(set: &CheckedSet, tap: &[u64], now: u128) -> Answer {
+    let [seconds, fraction] = layout::halves(now);
     let mut args = [0; layout::ARGS];
-    args[..given.len()].copy_from_slice(given);
-    let (plain_set, checked_set) = judge::sets(set).unwrap();
-    let mut answers = [Answer::empty(), Answer::empty(), Answer::empty()];
-    reference::Bridge::answer(call, function.set.then_some(&plain_set), &args, &mut answers[0]);
-    checked::Bridge::answer(call, function.set.then_some(&checked_set), &args, &mut answers[1]);
-    port::answer(call, set, &args, &mut answers[2]);
-    assert_eq!(answers.map(|answer| seen(&answer, function.gives)), expected, "{} {given:?}", function.name);
-}
-
-/// A prescaler's words: anchor, phase, running, what the stages have counted, and behind them stage and parent.
-fn staged(stages: usize, counted: u64, stage: u64, parent: u64) -> Vec<u64> {
-    [&[0, 0, 1][..], &vec![counted; stages], &[stage, parent]].concat()
-}
-
-/// The system prescaler's.
-fn prescaler(counted: u64, stage: u64, parent: u64) -> Vec<u64> {
-    staged(layout::STAGES_S, counted, stage, parent)
-}
-
-/// A set whose system prescaler has counted that much at each stage.
-fn counted(counted: u64) -> Set {
-    let mut set = plain_set(0, DEFAULT);
-    set[layout::AT_S + layout::DIVIDER..layout::AT_W].fill(counted);
-    set
-}
-
-#[test]
-fn level_before_the_start() {
-    let set = plain_set(1, DEFAULT);
-    check(Call::ClocksHigh, &set, &[0, 1, 0, 0], ["answered [0]", BELOW_ZERO, "answered [0]"]);
-    check(Call::HalfTicks, &set, &[0, 0], ["answered [1]", BELOW_ZERO, "answered [1]"]);
-    check(Call::HalfTicks, &set, &[0, 1], ["answered [0]"; 3]);
-}
-
-#[test]
-fn high_at_the_last_count() {
-    let set = plain_set(0, FASTEST);
-    check(Call::ClocksHigh, &set, &[0, 1, 1, 0], ["answered [1]", TOO_LARGE, "7"]);
-    check(Call::HalfTicks, &set, &[1, 0], ["7"; 3]);
-}
-
-#[test]
-fn divider_zero() {
-    let set = plain_set(0, DEFAULT);
-    let running = [CPU_0[0], CPU_0[1], RUNNING, 0, 0];
-    let with = |more: &[u64]| [&running[..], more].concat();
-    let traps = [BY_ZERO, BY_ZERO, "2"];
-    check(Call::ClocksTicks, &set, &[1, 0, 0, 0], traps);
-    check(Call::ClocksAfter, &set, &[1, 0, 0, 0, 1], traps);
-    check(Call::WaitPause, &set, &with(&[0, 0]), traps);
-    check(Call::WaitEdgesBefore, &set, &with(&[0, 1]), traps);
-    check(Call::WaitSelect, &set, &with(&[SYSTEM_1[0], SYSTEM_1[1], 0, 0]), traps);
-    // Where a wait is started the Rust refuses by itself.
-    check(Call::WaitAfter, &set, &[1, 0, 0, 0, 1], ["2"; 3]);
-    check(Call::WaitSelect, &set, &with(&[CPU_0[0], CPU_0[1], 0, 0]), ["2"; 3]);
-    check(Call::ClocksEdge, &set, &[1, 0, 5], ["answered [0, 0]"; 3]);
-}
-
-#[test]
-fn stage_out_of_range() {
-    let set = plain_set(0, DEFAULT);
-    let indexed = [NO_PLACE, BELOW_ZERO, "3"];
-    check(Call::TicksS, &set, &prescaler(0, 0, 0), indexed);
-    check(Call::ParentEdgeS, &set, &prescaler(0, 0, 0), indexed);
-    check(Call::TicksS, &set, &prescaler(0, 14, 0), [NO_PLACE, NO_PLACE, "3"]);
-    check(Call::ParentEdgeS, &set, &prescaler(0, 14, 0), [NO_PLACE, NO_PLACE, "3"]);
-    check(Call::HighS, &set, &prescaler(0, 0, 0), ["answered [1]", BELOW_ZERO, "3"]);
-    check(Call::HighS, &set, &prescaler(0, 14, 0), ["answered [1]", "answered [1]", "3"]);
-    check(Call::HighS, &set, &prescaler(0, 65, 0), ["answered [1]", TOO_LARGE, "3"]);
-    check(Call::CrossingsS, &set, &[0, 0, 0], indexed);
-    // The watch clock's has 8.
-    let watch = |stage: u64| staged(layout::STAGES_W, 0, stage, 0);
-    check(Call::TicksW, &set, &watch(0), indexed);
-    check(Call::TicksW, &set, &watch(9), [NO_PLACE, NO_PLACE, "3"]);
-    check(Call::ParentEdgeW, &set, &watch(9), [NO_PLACE, NO_PLACE, "3"]);
-    check(Call::HighW, &set, &watch(9), ["answered [1]", "answered [1]", "3"]);
-    check(Call::TicksW, &set, &watch(8), ["answered [0]"; 3]);
-}
-
-#[test]
-fn prescaler_sum() {
-    let set = counted(u64::MAX);
-    check(Call::TicksS, &set, &prescaler(u64::MAX, 1, 2), ["answered [0]", TOO_LARGE, "7"]);
-    // At the second edge of the system clock.
-    let at = ((2u128 << 64) / 3_686_400) as u64;
-    check(Call::ClocksTicks, &set, &[0, 2, 0, at], ["answered [0]", TOO_LARGE, "7"]);
-    let paused = |left: u64, more: &[u64]| [&[SYSTEM_2[0], SYSTEM_2[1], PAUSED, left, 0][..], more].concat();
-    check(Call::ClocksAfter, &set, &[0, 2, 0, at, 1], ["8", TOO_LARGE, "7"]);
-    check(Call::WaitAfter, &set, &[0, 2, 0, at, 1], ["8", TOO_LARGE, "7"]);
-    check(Call::WaitResume, &set, &paused(1, &[0, at]), ["8", TOO_LARGE, "7"]);
-}
-
-#[test]
-fn no_number_after_the_count() {
-    let set = plain_set(0, FASTEST);
-    let running = [SYSTEM_1[0], SYSTEM_1[1], RUNNING, 1, 0];
-    let with = |end: [u64; 2]| [&running[..], &end[..]].concat();
-    check(Call::WaitEdgesBefore, &set, &with([1, 1]), ["answered [0]", TOO_LARGE, "7"]);
-    check(Call::WaitEdgesBefore, &set, &with([1, 0]), ["answered [18446744073709551614]"; 3]);
-}
-
-#[test]
-fn a_clock_with_a_zero() {
-    let mut set = plain_set(0, DEFAULT);
-    // The subclock's denominator, though only the system domain is asked for.
-    set[layout::DOMAINS * layout::DOMAIN - 4] = 0;
-    assert!(judge::sets(&set).is_none());
+    args[..4].copy_from_slice(&[tap[0], tap[1], seconds, fraction]);
     let mut answer = Answer::empty();
-    for function in calls::CLOCKS.iter().filter(|function| function.set && function.call != Call::ClocksHasZero) {
-        port::answer(function.call, &set, &[0; layout::ARGS], &mut answer);
-        assert_eq!(answer.end, End::Refused(1), "{}", function.name);
-    }
-    check(Call::ClockNew, &plain_set(0, DEFAULT), &[0, 0, 0, 1], ["1"; 3]);
+    checked::Bridge::answer(Call::ClocksTicks, Some(set), &args, &mut answer);
+    answer
+}
+
+/// Whether a prescaler's sum passes 64 bits where a tap's edges are counted.
+fn sum_too_large(set: &CheckedSet, tap: &[u64], now: u128) -> bool {
+    ticks(set, tap, now).end == TOO_LARGE
+}
+
+/// The domain of a set that a tap is on.
+fn domain_of<'a>(set: &'a Set, tap: &[u64]) -> &'a [u64] {
+    layout::domain(set, tap[0] as usize)
 }

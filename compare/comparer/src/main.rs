@@ -1,5 +1,4 @@
 //! Compares the port with the unmodified Rust, call by call: on every boundary, then at random.
-#[cfg(test)]
 mod differences;
 mod hosts;
 mod inputs;
@@ -10,7 +9,6 @@ mod peripheral;
 mod report;
 mod shrink;
 mod traces;
-use std::panic;
 use std::process::ExitCode;
 use words::calls;
 
@@ -22,7 +20,7 @@ fn main() -> ExitCode {
             return ExitCode::from(2);
         }
     };
-    silence_the_rust();
+    report::hide_traps();
     let mut differences = 0;
     for (name, options) in parts {
         differences += match name {
@@ -35,19 +33,4 @@ fn main() -> ExitCode {
     }
     println!("differences: {differences}");
     ExitCode::from(u8::from(differences != 0))
-}
-
-/// A trap in a file of the Rust is an end like any other here, and isn't told of. A panic anywhere else is.
-fn silence_the_rust() {
-    let tell = panic::take_hook();
-    panic::set_hook(Box::new(move |panic| {
-        if !panic.location().is_some_and(|place| of_the_rust(place.file())) {
-            tell(panic);
-        }
-    }));
-}
-
-/// Whether a file is one of those that the build script of the crate reference lays out.
-fn of_the_rust(file: &str) -> bool {
-    file.contains("/out/rust/")
 }

@@ -75,10 +75,7 @@ impl Comparison {
         let expected = self.judge.run(function, set, sets, args);
         let agrees = self.judge.agrees(function, args, expected);
         self.tallies[row].add(&self.judge, expected, agrees);
-        if report::ran(expected) {
-            let judge = &self.judge;
-            self.partings.add([judge.plain.end, judge.checked.end, judge.port.end], || function.name.to_string());
-        }
+        self.partings.add(|| function.name.to_string(), self.judge.ends(expected), expected.row());
         if !agrees && self.tallies[row].differences <= SHOWN {
             show(function, set, args);
         }

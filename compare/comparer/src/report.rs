@@ -4,24 +4,39 @@ use std::collections::BTreeMap;
 use words::calls::{End, Function};
 use words::layout::{Args, Set};
 
-/// How often the port and the builds of the Rust end a call in ways that aren't the same: by the function, and by the ends of
-/// the plain build, the checked one and the port. Those that docs/DIFFERENCES.md names are here too.
+/// A trap of the Rust, whose files lie in the build folder, is an end like any other: only other panics are printed.
+pub fn hide_traps() {
+    std::panic::set_hook(Box::new(|panic| {
+        if !panic.location().is_some_and(|at| at.file().contains("/out/rust/")) {
+            eprintln!("compare: {panic}");
+        }
+    }));
+}
+
+/// How often the port and the builds of the Rust ended a call in ways that aren't the same: by the call, by the ends of the
+/// plain build, the checked one and the port, and by the row of docs/DIFFERENCES.md that allows it, or none.
 #[derive(Default)]
-pub struct Partings(BTreeMap<(String, String), u64>);
+pub struct Partings(BTreeMap<(String, String, &'static str), u64>);
 
 impl Partings {
-    pub fn add(&mut self, [plain, checked, port]: [End; 3], function: impl Fn() -> String) {
-        if plain != port || checked != port {
-            let ends = format!("{}, {}, {}", named(plain), named(checked), named(port));
-            *self.0.entry((function(), ends)).or_default() += 1;
+    /// Counts a call, if there is a row for it; the Rust has no end where it wasn't asked.
+    pub fn add(&mut self, call: impl Fn() -> String, ends: [Option<End>; 3], row: Option<&'static str>) {
+        if let Some(row) = row {
+            let ends = ends.map(|end| end.map_or("not asked".to_string(), named)).join(", ");
+            *self.0.entry((call(), ends, row)).or_default() += 1;
         }
     }
 
     pub fn print(&self) {
-        println!("{:<32}{:<48}{:>12}", "partings", "plain, checked, port", "calls");
-        for ((function, ends), calls) in &self.0 {
-            println!("{function:<32}{ends:<48}{calls:>12}");
+        println!("{:<32}{:<48}{:>12}  row of docs/DIFFERENCES.md", "partings", "plain, checked, port", "calls");
+        for ((call, ends, row), calls) in &self.0 {
+            println!("{call:<32}{ends:<48}{calls:>12}  {row}");
         }
+    }
+
+    #[cfg(test)]
+    pub fn is_empty(&self) -> bool {
+        self.0.is_empty()
     }
 }
 
@@ -48,24 +63,24 @@ pub struct Tally {
 impl Tally {
     pub fn add(&mut self, judge: &Judge, expected: Expected, agrees: bool) {
         self.calls += 1;
-        self.differences += u64::from(!agrees);
+        let mut differs = !agrees;
         match judge.port.end {
             End::Done => self.answered += 1,
-            End::Refused(number) => {
-                if let Some(place) = NUMBERS.iter().position(|n| *n == number) {
-                    self.refused[place] += 1;
+            End::Refused(number) => match NUMBERS.iter().position(|n| *n == number) {
+                Some(place) => self.refused[place] += 1,
+                None => {
+                    if agrees {
+                        println!("difference: {number}, a refusal that no function draws");
+                    }
+                    differs = true;
                 }
-            }
-            End::Trapped(_) => {}
+            },
+            End::Trapped(trap) => unreachable!("the port ends no call in a trap: {trap:?}"),
         }
-        let trapped = matches!(judge.checked.end, End::Trapped(_)) && expected != Expected::Rust;
-        self.trapped += u64::from(trapped && ran(expected));
+        self.differences += u64::from(differs);
+        let trapped = matches!(judge.checked.end, End::Trapped(_)) && matches!(expected, Expected::Parting(_));
+        self.trapped += u64::from(trapped);
     }
-}
-
-/// Whether the Rust was called.
-pub fn ran(expected: Expected) -> bool {
-    !matches!(expected, Expected::Refusal(1 | 3))
 }
 
 pub fn table(rows: &[(&Function, Tally)]) {

@@ -5,8 +5,13 @@ use crate::layout::{self, Args, Out, Set};
 pub enum Trap {
     /// A difference below zero.
     Subtract,
+    /// A sum too large.
     Overflow,
+    /// A shift by as many bits as there are, or more.
+    Shift,
+    /// A division by zero.
     Divide,
+    /// An index out of range.
     Index,
     Other,
 }

@@ -1,228 +1,211 @@
-//! The peripheral's part of the page.
-use super::{counted, seen, BELOW_ZERO, BY_ZERO, PAUSED, RUNNING, SYSTEM_2, TOO_LARGE};
-use crate::inputs::{plain_set, FREQUENCIES as DEFAULT};
-use crate::peripheral::machine::{Machine, Sets};
-use words::calls::{Answer, Reference};
+//! The rows for the peripheral.
+use super::{before_start, held_before_start, sum_too_large, CheckedSet, Ends, Like, Parting, PlainSet, Row};
+use super::{BELOW_ZERO, BY_ZERO, DONE, EIGHT, SEVEN, TOO_LARGE, TWO};
+use words::calls::{Answer, End};
 use words::iic::{self, Call, Peripheral, State};
 use words::layout::{self, Args, Set};
 
-/// The state of the port and the words of both builds', after one call on a state that is handed in.
-struct Left {
-    plain: Vec<u64>,
-    checked: Vec<u64>,
-    port: State,
+/// Where a run begins: at the default, or at a state made at random that `validate` accepts or refuses.
+#[derive(Clone, Copy, PartialEq, Eq, Debug)]
+pub enum Origin {
+    Default,
+    Accepted,
+    Refused,
 }
 
-fn args(now: [u64; 2], operands: [u64; 2]) -> Args {
-    let mut args = [0; layout::ARGS];
-    args[..4].copy_from_slice(&[now[0], now[1], operands[0], operands[1]]);
-    args
+/// What a call was handed.
+pub struct Handed<'a> {
+    pub origin: Origin,
+    pub state: &'a State,
+    pub words: &'a Set,
+    pub plain_set: &'a PlainSet,
+    pub checked_set: &'a CheckedSet,
+    pub args: &'a Args,
 }
 
-/// Runs a call on a state that is handed in, in the plain build, the checked one and the port.
-fn check(call: Call, state: &State, set: &Set, args: &Args, expected: [&str; 3]) -> Left {
-    let mut answers = [Answer::empty(), Answer::empty(), Answer::empty()];
-    let mut left = Left { plain: Vec::new(), checked: Vec::new(), port: *state };
-    let mut plain = reference::Bridge::state(state);
-    reference::Bridge::call(call, &mut plain, &reference::Bridge::set(set).unwrap(), args, &mut answers[0]);
-    reference::Bridge::words(&plain, &mut left.plain);
-    let mut checked = checked::Bridge::state(state);
-    checked::Bridge::call(call, &mut checked, &checked::Bridge::set(set).unwrap(), args, &mut answers[1]);
-    checked::Bridge::words(&checked, &mut left.checked);
-    port::iic::call(call, &mut left.port, set, args, &mut answers[2]);
-    assert_eq!(answers.map(|answer| seen(&answer, call.gives())), expected, "{call:?}");
-    left
+/// From where runs can meet the row, and what must be so of the input besides.
+struct When {
+    origins: &'static [Origin],
+    holds: fn(&Handed) -> bool,
 }
 
-/// A machine from the default, all of whose calls end alike in both builds and the port.
-struct Alike {
-    machine: Machine,
-    sets: Sets,
-    now: u128,
+const ANY: &[Origin] = &[Origin::Default, Origin::Accepted, Origin::Refused];
+const MADE: &[Origin] = &[Origin::Accepted, Origin::Refused];
+/// A wait with the divider 0 is what `validate` refuses.
+const REFUSED: &[Origin] = &[Origin::Refused];
+
+/// All calls at which the Rust asks for a half count.
+const COUNT_HALVES: &[Call] = &[Call::Read, Call::Write, Call::SetGate, Call::Advance];
+const GOES_ON: &[Ends] = &[[DONE, BELOW_ZERO, DONE]];
+/// Refused after the level, later in the same call.
+const SEVEN_LATER: Ends = [SEVEN, BELOW_ZERO, SEVEN];
+const EIGHT_LATER: Ends = [EIGHT, BELOW_ZERO, EIGHT];
+
+/// Looked at in this order: a sum that wraps in the plain build ends the port's call, whatever the plain one makes of it.
+const ROWS: &[Row<Call, When>] = &[
+    Row {
+        name: "prescaler_sum_after_a_level",
+        calls: &[Call::SetGate],
+        ends: &[[DONE, BELOW_ZERO, SEVEN], [SEVEN, BELOW_ZERO, SEVEN], [EIGHT, BELOW_ZERO, SEVEN]],
+        like: Like::PlainUpToTheSum,
+        when: When { origins: MADE, holds: sum_after_a_level },
+    },
+    Row {
+        name: "prescaler_sum_after_a_level",
+        calls: &[Call::SetGate],
+        ends: &[[TWO, BELOW_ZERO, SEVEN]],
+        like: Like::PlainUpToTheSum,
+        when: When { origins: REFUSED, holds: sum_after_a_level },
+    },
+    Row {
+        name: "times_before_the_start",
+        calls: COUNT_HALVES,
+        ends: GOES_ON,
+        like: Like::Plain,
+        when: When { origins: ANY, holds: early },
+    },
+    Row {
+        name: "refused_before_the_start",
+        calls: &[Call::SetGate],
+        ends: &[SEVEN_LATER, EIGHT_LATER],
+        like: Like::Plain,
+        when: When { origins: ANY, holds: early },
+    },
+    Row {
+        name: "refused_before_the_start",
+        calls: &[Call::Advance],
+        ends: &[SEVEN_LATER],
+        like: Like::Plain,
+        when: When { origins: ANY, holds: early },
+    },
+    Row {
+        name: "refused_before_the_start",
+        calls: &[Call::Advance],
+        ends: &[EIGHT_LATER],
+        like: Like::Plain,
+        when: When { origins: MADE, holds: early },
+    },
+    Row {
+        name: "a_clock_held_before_its_start",
+        calls: COUNT_HALVES,
+        ends: GOES_ON,
+        like: Like::Plain,
+        when: When { origins: MADE, holds: held },
+    },
+    Row {
+        name: "a_clock_held_before_its_start",
+        calls: &[Call::SetGate, Call::Advance],
+        ends: &[SEVEN_LATER, EIGHT_LATER],
+        like: Like::Plain,
+        when: When { origins: MADE, holds: held },
+    },
+    Row {
+        name: "divider_zero_of_a_wait",
+        calls: &[Call::SetGate],
+        ends: &[[BY_ZERO, BY_ZERO, TWO]],
+        like: Like::Both,
+        when: When { origins: REFUSED, holds: has_divider_zero },
+    },
+    Row {
+        name: "divider_zero_after_a_level",
+        calls: &[Call::SetGate],
+        ends: &[[BY_ZERO, BELOW_ZERO, TWO], [TWO, BELOW_ZERO, TWO]],
+        like: Like::Plain,
+        when: When { origins: REFUSED, holds: |handed| (early(handed) || held(handed)) && has_divider_zero(handed) },
+    },
+    Row {
+        name: "prescaler_sum_of_a_wait",
+        calls: &[Call::SetGate],
+        ends: &[[DONE, TOO_LARGE, SEVEN], [SEVEN, TOO_LARGE, SEVEN], [EIGHT, TOO_LARGE, SEVEN]],
+        like: Like::Checked,
+        when: When { origins: MADE, holds: |handed| at_the_sum(handed).is_some() },
+    },
+    Row {
+        name: "prescaler_sum_of_a_wait",
+        calls: &[Call::SetGate],
+        ends: &[[TWO, TOO_LARGE, SEVEN]],
+        like: Like::Checked,
+        when: When { origins: REFUSED, holds: |handed| at_the_sum(handed).is_some() },
+    },
+];
+
+/// The parting that a row allows where both builds of the Rust end a call so.
+pub fn parting(call: Call, handed: &Handed, plain: End, checked: End) -> Option<Parting> {
+    let allows = |row: &Row<Call, When>| row.when.origins.contains(&handed.origin) && (row.when.holds)(handed);
+    ROWS.iter().find_map(|row| row.parting(call, plain, checked).filter(|_| allows(row)))
 }
 
-impl Alike {
-    fn new() -> Self {
-        Self { machine: Machine::fresh().unwrap(), sets: Sets::new(plain_set(0, DEFAULT)), now: 0 }
+/// Whether the system clock's level is asked for before its start.
+fn early(handed: &Handed) -> bool {
+    before_start(layout::domain(handed.words, 0), layout::time_at(handed.args, 0))
+}
+
+/// Whether the system clock stands still at a time before its start.
+fn held(handed: &Handed) -> bool {
+    held_before_start(layout::domain(handed.words, 0))
+}
+
+/// Whether a sum passes 64 bits behind a prescaler, after a level that the checked build can't tell.
+fn sum_after_a_level(handed: &Handed) -> bool {
+    (early(handed) || held(handed)) && plain_up_to_the_sum(handed).is_some()
+}
+
+/// The words of a wait that is there.
+fn wait(state: &State, place: usize) -> Option<&[u64]> {
+    (state[place] != 0).then(|| &state[place + 1..][..layout::WAIT])
+}
+
+/// Whether there is a wait with the divider 0.
+fn has_divider_zero(handed: &Handed) -> bool {
+    [iic::FILTER_WAIT, iic::SETUP_WAIT]
+        .into_iter()
+        .filter_map(|place| wait(handed.state, place))
+        .any(|wait| wait[1] == 0)
+}
+
+/// The place of the first paused wait that a gate, opened, would go on with behind a prescaler whose sum passes 64 bits. One with
+/// the divider 0 before it ends the call there.
+fn at_the_sum(handed: &Handed) -> Option<usize> {
+    const PAUSED: u64 = 1;
+    let now = layout::time_at(handed.args, 0);
+    let places = if handed.args[2] == 0 { &[][..] } else { &[iic::FILTER_WAIT, iic::SETUP_WAIT] };
+    let ends_the_call = |place: &usize| {
+        wait(handed.state, *place).is_some_and(|wait| {
+            wait[2] == PAUSED && (wait[1] == 0 || wait[3] != 0 && sum_too_large(handed.checked_set, wait, now))
+        })
+    };
+    let first = places.iter().copied().find(ends_the_call)?;
+    (handed.state[first + 2] != 0).then_some(first)
+}
+
+/// The state in which the plain build comes to such a wait, where it does: the call is made without that wait and those after it,
+/// and not enabled, so that it ends there.
+pub fn plain_up_to_the_sum(handed: &Handed) -> Option<Vec<u64>> {
+    const ENABLED: u64 = 0x80;
+    let first = at_the_sum(handed)?;
+    let later = [iic::FILTER_WAIT, iic::SETUP_WAIT].into_iter().filter(|place| *place >= first);
+    let mut state = *handed.state;
+    state[iic::CONTROL] &= !ENABLED;
+    later.clone().for_each(|place| state[place] = 0);
+    let mut plain = reference::Bridge::state(&state);
+    let (mut answer, mut left) = (Answer::empty(), Vec::new());
+    reference::Bridge::call(Call::SetGate, &mut plain, handed.plain_set, handed.args, &mut answer);
+    reference::Bridge::words(&plain, &mut left);
+    left[iic::CONTROL] = handed.state[iic::CONTROL];
+    for place in later {
+        left[place..=place + layout::WAIT].copy_from_slice(&handed.state[place..=place + layout::WAIT]);
     }
-    fn call(&mut self, call: Call, operands: [u64; 2]) {
-        self.machine.call(call, &self.sets, &args(layout::halves(self.now), operands)).unwrap();
-    }
-    /// Visits at each deadline until there is none.
-    fn settle(&mut self) {
-        loop {
-            self.call(Call::Deadline, [0, 0]);
-            if self.machine.answer().words[1] == 0 {
-                return;
-            }
-            self.now = layout::time_at(&self.machine.answer().words, 2);
-            self.call(Call::Advance, [0, 0]);
-        }
-    }
-    fn levels(&mut self, scl: bool, sda: bool) {
-        self.call(Call::InputPins, [u64::from(scl), u64::from(sda)]);
-        self.settle();
-    }
-    /// A start and a byte, high bit first, up to the fall behind the last bit.
-    fn send(&mut self, byte: u8) {
-        self.levels(true, false);
-        self.levels(false, false);
-        for bit in (0..8).rev() {
-            let sda = byte >> bit & 1 != 0;
-            [false, true, false].into_iter().for_each(|scl| self.levels(scl, sda));
-        }
-    }
-    fn register(&self, place: usize) -> u64 {
-        self.machine.state()[place]
-    }
+    (answer.end == DONE).then_some(left)
 }
 
-/// A slave with own address 00: the START byte 01 selects it, turns it to transmit and is acknowledged.
-#[test]
-fn start_byte() {
-    let mut slave = Alike::new();
-    slave.call(Call::SetGate, [1, 0]);
-    slave.call(Call::Write, [0, 0x80]);
-    slave.send(0x01);
-    assert_eq!(slave.register(iic::ADDRESS), 0x00);
-    assert_eq!(slave.register(iic::STATUS), 0x82);
-    assert_eq!(slave.register(iic::CONTROL), 0x90);
-    assert_eq!(slave.register(iic::SELECTED), 1);
-    assert_eq!(slave.machine.state()[iic::DRIVE..iic::RAW], [1, 0]);
-    // With any other own address nobody pulls SDA.
-    let mut slave = Alike::new();
-    slave.call(Call::SetGate, [1, 0]);
-    slave.call(Call::Write, [5, 0xa0]);
-    slave.call(Call::Write, [0, 0x80]);
-    slave.send(0x01);
-    assert_eq!([iic::STATUS, iic::CONTROL, iic::SELECTED].map(|place| slave.register(place)), [0, 0x80, 0]);
-    assert_eq!(slave.machine.state()[iic::DRIVE..iic::RAW], [1, 1]);
+/// The names of the rows, and whether a run from the default can meet them.
+#[cfg(test)]
+pub fn names() -> impl Iterator<Item = (&'static str, bool)> {
+    ROWS.iter().map(|row| (row.name, row.when.origins.contains(&Origin::Default)))
 }
 
-/// Seconds and fraction, call and operands; then the end and the levels, as in the page.
-#[test]
-fn refused_idle_visit() {
-    const SECONDS: u64 = 2_501_999_792_983;
-    let calls = [
-        (0x9bdf_c71c_71c7_1c6f, Call::SetGate, [1, 0], "g\t1", "0\t-\t-"),
-        (0x9bdf_c71c_71c7_1c70, Call::Write, [5, 0x01], "w\t5\t01", "0\t-\t-"),
-        (0x9bdf_c71c_71c7_1c71, Call::Write, [0, 0xa0], "w\t0\ta0", "0\t-\t01"),
-        (0x9be0_06d3_a06d_3a06, Call::Advance, [0, 0], "v", "7\t-\t11"),
-        (0x9be0_06d3_a06d_3a07, Call::Advance, [0, 0], "v", "7\t-\t01"),
-    ];
-    let mut host = Alike::new();
-    let (mut trace, mut answers) = (String::new(), String::new());
-    for (place, (fraction, call, operands, line, answer)) in calls.into_iter().enumerate() {
-        host.now = layout::joined(SECONDS, fraction);
-        if place == 4 {
-            // Idle: no wait is due, since none is left; and there is a frame already.
-            let waits = [iic::FILTER_WAIT, iic::SETUP_WAIT, iic::MONITOR_WAIT, iic::CLOCK_WAIT, iic::FRAME];
-            assert_eq!(waits.map(|place| host.register(place)), [0, 0, 0, 0, 1]);
-        }
-        host.call(call, operands);
-        trace += &format!("{SECONDS}\t{fraction:016x}\t{line}\n");
-        answers += &format!("{}\t{answer}\t00\n", place + 1);
-    }
-    assert_eq!(String::from_utf8(plain_player::play(trace.as_bytes(), 1000).bytes).unwrap(), answers);
-}
-
-/// A clock that starts at 0:0000000000000001, at time 0: a start command begins a half wait.
-#[test]
-fn times_before_the_start() {
-    let set = plain_set(1, DEFAULT);
-    let mut state = port::iic::fresh();
-    for (call, operands) in [(Call::SetGate, [1, 0]), (Call::Write, [0, 0xb0])] {
-        state = check(call, &state, &set, &args([0, 0], operands), ["answered []"; 3]).port;
-    }
-    let start = args([0, 0], [1, 0x90]);
-    let left = check(Call::Write, &state, &set, &start, ["answered []", BELOW_ZERO, "answered []"]);
-    assert_eq!(left.plain, left.port);
-    assert_eq!(left.port[iic::CLOCK_WAIT..iic::MONITOR_WAIT], [1, 1 + 28, 0]);
-}
-
-/// An enabled peripheral whose SCL rises at time 0, in a frame of its data phase with so many bits to go.
-fn about_to_rise(remaining: u64) -> State {
-    let mut state = port::iic::fresh();
-    state[iic::CONTROL] = 0x80;
-    state[iic::GATE] = 1;
-    state[iic::FILTERED] = 0;
-    state[iic::FILTER_WAIT..iic::CLOCK_WAIT].copy_from_slice(&[1, 0, 1, 2, 0, 0]);
-    state[iic::FRAME..iic::SELECTED].copy_from_slice(&[1, 0, remaining, 0, 0, 0, 1, 0]);
-    state
-}
-
-#[test]
-fn a_frame_without_bits_to_go() {
-    let (set, now) = (plain_set(0, DEFAULT), args([0, 0], [0, 0]));
-    let state = about_to_rise(0);
-    let left = check(Call::Advance, &state, &set, &now, ["answered []", BELOW_ZERO, "10"]);
-    assert_eq!(left.port, state);
-    assert_eq!(left.plain[iic::FRAME + 2], 255);
-    check(Call::Advance, &about_to_rise(1), &set, &now, ["answered []"; 3]);
-    // The Rust has no such test outside `validate`, where all three refuse.
-    check(Call::Validate, &state, &set, &now, ["10"; 3]);
-    let mut done = about_to_rise(1);
-    done[iic::FRAME + 3] = 2;
-    check(Call::Advance, &done, &set, &now, ["answered []", "answered []", "10"]);
-}
-
-#[test]
-fn count_or_mode_out_of_range() {
-    let (set, now) = (plain_set(0, DEFAULT), args([0, 0], [0, 0]));
-    for (place, word) in [(iic::COUNT, 8), (iic::MODE, 1)] {
-        let mut state = port::iic::fresh();
-        state[place] = word;
-        for call in [Call::Write, Call::SetGate, Call::Advance] {
-            let left = check(call, &state, &set, &now, ["answered []", "answered []", "9"]);
-            assert_eq!(left.port, state);
-        }
-        check(Call::Read, &state, &set, &now, ["answered [0]", "answered [0]", "9"]);
-        check(Call::InputPins, &state, &set, &now, ["answered [0]", "answered [0]", "9"]);
-        check(Call::Validate, &state, &set, &now, ["9"; 3]);
-    }
-}
-
-/// The gate is shut on a filter wait whose tap has the divider 0, at the clock's start: it is counted with, and the state is
-/// left as it is at that point. Later the wait is past before it is counted with. Opened, the gate draws 2 in the Rust, too.
-#[test]
-fn divider_zero_of_a_wait() {
-    let set = plain_set(0, DEFAULT);
-    let mut state = port::iic::fresh();
-    state[iic::GATE] = 1;
-    state[iic::FILTER_WAIT..iic::CLOCK_WAIT].copy_from_slice(&[1, 1, 0, RUNNING, 0, 0]);
-    let off = |now| args(now, [0, 0]);
-    let left = check(Call::SetGate, &state, &set, &off([0, 0]), [BY_ZERO, BY_ZERO, "2"]);
-    assert_eq!(left.port[iic::GATE], 0);
-    assert_eq!((&left.plain[..], &left.checked[..]), (&left.port[..], &left.port[..]));
-    check(Call::SetGate, &state, &set, &off([0, 1]), ["8"; 3]);
-    state[iic::GATE] = 0;
-    state[iic::FILTER_WAIT + 3] = PAUSED;
-    check(Call::SetGate, &state, &set, &args([0, 0], [1, 0]), ["2"; 3]);
-}
-
-/// The gate is opened on a filter wait behind a prescaler whose sum has passed 64 bits.
-#[test]
-fn prescaler_sum_of_a_wait() {
-    let set = counted(u64::MAX);
-    let mut state = port::iic::fresh();
-    state[iic::FILTER_WAIT..iic::CLOCK_WAIT].copy_from_slice(&[1, SYSTEM_2[0], SYSTEM_2[1], PAUSED, 1, 0]);
-    let at = ((2u128 << 64) / 3_686_400) as u64;
-    let left = check(Call::SetGate, &state, &set, &args([0, at], [1, 0]), ["8", TOO_LARGE, "7"]);
-    assert_eq!((&left.plain[..], &left.checked[..]), (&left.port[..], &left.port[..]));
-}
-
-/// A clock that holds a zero draws 1 at each call that is handed the set, first of all and without a change.
-#[test]
-fn a_clock_with_a_zero() {
-    let mut set = plain_set(0, DEFAULT);
-    set[layout::DOMAINS * layout::DOMAIN - 4] = 0;
-    assert!(reference::Bridge::set(&set).is_none());
-    let mut state = about_to_rise(0);
-    state[iic::COUNT] = 8;
-    let before = state;
-    let mut answer = Answer::empty();
-    for call in [Call::Read, Call::Write, Call::InputPins, Call::SetGate, Call::Advance, Call::Deadline] {
-        port::iic::call(call, &mut state, &set, &args([0, 0], [0, 0]), &mut answer);
-        assert_eq!((seen(&answer, 0), state), ("1".to_string(), before), "{call:?}");
-    }
+/// Every call and its ends that a row allows.
+#[cfg(test)]
+pub fn allowed() -> Vec<(&'static str, Call, Ends)> {
+    super::allowed(ROWS)
 }

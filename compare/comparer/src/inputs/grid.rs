@@ -2,6 +2,7 @@
 //! too many. A combination is a number, whose digits choose the boundaries.
 use super::focus::Focus;
 use super::numbers::{self, DENOMINATORS, DIVIDERS, FREQUENCIES, STAGES, WORDS};
+use super::plain_set;
 use traffic::exact;
 use traffic::random::Random;
 use words::calls::{Function, Kind};
@@ -160,42 +161,39 @@ fn put_state(digits: &mut Digits, focus: &Focus, out: &mut [u64]) {
     }
 }
 
-/// A set as `Clocks::new` makes it.
-pub fn plain_set(start: u128, [main, watch, on_chip]: [u64; 3]) -> Set {
-    let [seconds, fraction] = layout::halves(start);
-    let mut set = [0; layout::SET];
-    let rates = [(main, 1), (main, 1), (watch, 1), (on_chip, 1), (main, 1), (watch, 8)];
-    for (domain, (hz, divide)) in set.chunks_mut(layout::DOMAIN).zip(rates) {
-        domain.copy_from_slice(&[seconds, fraction, hz, divide, 1, seconds, fraction]);
-    }
-    set[layout::AT_S + 2] = 1;
-    set[layout::AT_W + 2] = 1;
-    set
-}
-
-/// New sets at every frequency and start, and the same with all domains stopped, with prescalers about to overflow, and
-/// with those stopped.
+/// New sets at every frequency and start, and the same with all domains stopped, at their start or before it, with prescalers
+/// about to overflow, and with those stopped.
 fn sets() -> Vec<Set> {
     let mut sets = Vec::new();
     for start in [0, 5 << 64, LATE, u128::MAX] {
         for frequencies in SETS_OF {
             let set = plain_set(start, frequencies);
-            let mut stopped = set;
-            for source in 0..layout::DOMAINS {
-                stopped[source * layout::DOMAIN + 4] = 0;
-            }
-            let mut full = set;
-            for at in [layout::AT_S, layout::AT_W] {
-                full[at] = 3;
-                full[at + 1] = 65535;
-            }
-            full[layout::AT_S + layout::DIVIDER..layout::AT_W].fill(u64::MAX);
-            full[layout::AT_W + layout::DIVIDER..].fill(u64::MAX - 1);
+            let full = full_prescalers(set);
             let mut paused = full;
             paused[layout::AT_S + 2] = 0;
             paused[layout::AT_W + 2] = 0;
-            sets.extend([set, stopped, full, paused]);
+            sets.extend([set, stopped(set, start), stopped(set, start.saturating_sub(1)), full, paused]);
         }
     }
     sets
+}
+
+/// A set whose domains are held at a time.
+fn stopped(mut set: Set, held_at: u128) -> Set {
+    for domain in set[..layout::AT_S].chunks_mut(layout::DOMAIN) {
+        domain[4] = 0;
+        put_time(held_at, &mut domain[5..]);
+    }
+    set
+}
+
+/// A set whose prescalers have counted nearly all that they can.
+fn full_prescalers(mut set: Set) -> Set {
+    for at in [layout::AT_S, layout::AT_W] {
+        set[at] = 3;
+        set[at + 1] = 65535;
+    }
+    set[layout::AT_S + layout::DIVIDER..layout::AT_W].fill(u64::MAX);
+    set[layout::AT_W + layout::DIVIDER..].fill(u64::MAX - 1);
+    set
 }

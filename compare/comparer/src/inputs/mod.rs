@@ -1,10 +1,11 @@
 //! Inputs: at random, steered towards what is rare, and every boundary.
 mod focus;
+mod fresh;
 pub mod grid;
 mod numbers;
 mod objects;
 use focus::Focus;
-pub use grid::plain_set;
+pub use fresh::plain_set;
 pub use numbers::{divider, start, word};
 pub use objects::set;
 use traffic::random::Random;

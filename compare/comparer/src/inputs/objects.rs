@@ -1,5 +1,6 @@
 //! Clocks, domains, prescalers, taps, waits and whole sets, sound ones and damaged ones.
 use super::focus::Focus;
+use super::fresh::plain_set;
 use super::numbers;
 use traffic::random::Random;
 use words::layout::{self, Set};
@@ -92,29 +93,31 @@ pub fn frequencies(random: &mut Random) -> [u64; layout::FREQUENCIES] {
     })
 }
 
-/// A set as `Clocks::new` makes it, or six domains and two prescalers of any kind; now and then with a damaged clock.
+/// A set as `Clocks::new` makes it, that with prescalers of any kind, or six domains and two prescalers of any kind; now and
+/// then with a damaged clock.
 pub fn set(random: &mut Random) -> Set {
-    let mut set = [0; layout::SET];
     let damaged = random.once_in(25);
     let broken = random.below(layout::DOMAINS as u64) as usize;
     let fresh = random.once_in(4);
-    let [main, watch, on_chip] = frequencies(random).map(|hz| hz.max(1));
-    let hz = [main, main, watch, on_chip, main, watch];
-    let start = layout::halves(numbers::start(random));
-    for source in 0..layout::DOMAINS {
-        let words = if fresh {
-            [start[0], start[1], hz[source], if source == 5 { 8 } else { 1 }, 1, start[0], start[1]]
-        } else {
-            domain(random, damaged && source == broken)
-        };
-        set[source * layout::DOMAIN..][..layout::DOMAIN].copy_from_slice(&words);
-    }
-    prescaler(random, layout::STAGES_S, &mut set[layout::AT_S..layout::AT_W]);
-    prescaler(random, layout::STAGES_W, &mut set[layout::AT_W..]);
+    let frequencies = frequencies(random).map(|hz| hz.max(1));
+    let start = numbers::start(random);
+    let set = if fresh { plain_set(start, frequencies) } else { any_domains(random, damaged.then_some(broken)) };
+    let mut used = set;
+    prescaler(random, layout::STAGES_S, &mut used[layout::AT_S..layout::AT_W]);
+    prescaler(random, layout::STAGES_W, &mut used[layout::AT_W..]);
     if fresh && !random.once_in(4) {
-        set[layout::AT_S..].fill(0);
-        set[layout::AT_S + 2] = 1;
-        set[layout::AT_W + 2] = 1;
+        set
+    } else {
+        used
+    }
+}
+
+/// Domains that have nothing to do with one another, one of them damaged or none.
+fn any_domains(random: &mut Random, broken: Option<usize>) -> Set {
+    let mut set = [0; layout::SET];
+    for source in 0..layout::DOMAINS {
+        let words = domain(random, broken == Some(source));
+        set[source * layout::DOMAIN..][..layout::DOMAIN].copy_from_slice(&words);
     }
     set
 }

@@ -1,34 +1,58 @@
 //! One peripheral, three times: the port's, and those of both builds of the Rust. After every call all that can be seen of
 //! them is compared.
-use words::calls::{Answer, End, Reference, Trap};
+#[cfg(test)]
+mod tests;
+use crate::differences::peripheral::{self as rows, Handed, Origin};
+use crate::differences::{row_added, Like, Parting};
+use crate::inputs::{plain_set, FREQUENCIES};
+use crate::judge;
+use words::calls::{Answer, End, Reference};
 use words::iic::{self, Call, Peripheral, State};
-use words::layout::{self, Args, Set};
+use words::layout::{Args, Set};
 
 type Plain = reference::Bridge;
 type Checked = checked::Bridge;
 
 /// A clock set as everybody holds it.
-pub struct Sets {
+pub struct ClockSet {
     pub words: Set,
-    /// None where a clock holds a zero.
-    rust: Option<(<Plain as Reference>::Set, <Checked as Reference>::Set)>,
+    plain: <Plain as Reference>::Set,
+    checked: <Checked as Reference>::Set,
+    /// Whether a clock holds a zero. The Rust has no such clock: it holds a sound set instead, for the questions that take none.
+    zero: bool,
 }
 
-impl Sets {
+impl ClockSet {
     pub fn new(words: Set) -> Self {
-        Self { rust: Plain::set(&words).zip(Checked::set(&words)), words }
+        let own = judge::sets(&words);
+        let zero = own.is_none();
+        let sound = || judge::sets(&plain_set(0, FREQUENCIES)).expect("no frequency of the default is zero");
+        let (plain, checked) = own.unwrap_or_else(sound);
+        Self { words, plain, checked, zero }
     }
 }
 
 pub struct Machine {
+    origin: Origin,
     port: State,
     plain: <Plain as Peripheral>::State,
     checked: <Checked as Peripheral>::State,
     /// The words of a state of the Rust.
     left: Vec<u64>,
+    /// Of the port, the plain build and the checked one.
     answers: [Answer; 3],
-    /// Whether the Rust got the last call.
-    ran: bool,
+    /// The refusal that the last call draws though the Rust doesn't have it; the Rust wasn't asked.
+    added: Option<u8>,
+    /// The partings since somebody took them.
+    pub parted: Vec<Parted>,
+}
+
+/// A call that the three ended in ways that aren't the same, as a row of docs/DIFFERENCES.md allows.
+pub struct Parted {
+    pub call: Call,
+    /// The plain build, the checked one and the port; none for the Rust where it wasn't asked.
+    pub ends: [Option<End>; 3],
+    pub row: &'static str,
 }
 
 /// What differs, in words, and what was expected.
@@ -39,24 +63,42 @@ pub struct Difference {
 }
 
 impl Machine {
-    pub fn new(state: &State) -> Self {
+    pub fn new(state: &State, origin: Origin) -> Self {
         Self {
+            origin,
             port: *state,
             plain: Plain::state(state),
             checked: Checked::state(state),
             left: Vec::new(),
             answers: [Answer::empty(), Answer::empty(), Answer::empty()],
-            ran: false,
+            added: None,
+            parted: Vec::new(),
         }
+    }
+
+    /// One in a state that is made; `validate` accepts it at that time or not.
+    pub fn made(state: &State, set: &ClockSet, args: &Args) -> Self {
+        let mut machine = Self::new(state, Origin::Accepted);
+        let [_, _, answer] = &mut machine.answers;
+        Checked::call(Call::Validate, &mut machine.checked, &set.checked, args, answer);
+        if answer.end != End::Done {
+            machine.origin = Origin::Refused;
+        }
+        machine
     }
 
     /// One before its first call, with what the states part in.
     pub fn fresh() -> Result<Self, Difference> {
-        let mut machine = Self::new(&port::iic::fresh());
+        let mut machine = Self::new(&port::iic::fresh(), Origin::Default);
         machine.plain = Plain::fresh();
         machine.checked = Checked::fresh();
-        machine.compare_states(Call::Observe, false, false)?;
+        machine.like_plain(Call::Observe)?;
+        machine.like_checked(Call::Observe)?;
         Ok(machine)
+    }
+
+    pub fn origin(&self) -> Origin {
+        self.origin
     }
 
     pub fn state(&self) -> &State {
@@ -68,80 +110,96 @@ impl Machine {
         &self.answers[0]
     }
 
-    /// How the last call ended in the plain build, the checked one and the port; none where the Rust wasn't called.
-    pub fn ends(&self) -> Option<[End; 3]> {
-        self.ran.then(|| [1, 2, 0].map(|side| self.answers[side].end))
-    }
-
     /// Runs a call everywhere and compares answer, refusal and state.
-    pub fn call(&mut self, call: Call, sets: &Sets, args: &Args) -> Result<(), Difference> {
+    pub fn call(&mut self, call: Call, set: &ClockSet, args: &Args) -> Result<(), Difference> {
         let before = self.port;
-        self.ran = false;
-        port::iic::call(call, &mut self.port, &sets.words, args, &mut self.answers[0]);
-        let Some((plain, checked)) = &sets.rust else {
-            return if call.takes_set() { self.unchanged(call, &before, 1) } else { Ok(()) };
-        };
-        if let Some(number) = added(call, &before) {
-            return self.unchanged(call, &before, number);
-        }
-        self.ran = true;
-        Plain::call(call, &mut self.plain, plain, args, &mut self.answers[1]);
-        Checked::call(call, &mut self.checked, checked, args, &mut self.answers[2]);
-        self.compare(call, sets, args)
+        self.run(call, set, args);
+        self.judge(call, set, args, &before)
     }
 
-    fn unchanged(&self, call: Call, before: &State, number: u8) -> Result<(), Difference> {
-        if self.answers[0].end == End::Refused(number) && self.port == *before {
+    fn run(&mut self, call: Call, set: &ClockSet, args: &Args) {
+        self.added = if set.zero && call.takes_set() { Some(1) } else { added(call, &self.port) };
+        port::iic::call(call, &mut self.port, &set.words, args, &mut self.answers[0]);
+        if self.added.is_none() {
+            Plain::call(call, &mut self.plain, &set.plain, args, &mut self.answers[1]);
+            Checked::call(call, &mut self.checked, &set.checked, args, &mut self.answers[2]);
+        }
+    }
+
+    /// Whether the port did as it should, from the state before the call.
+    fn judge(&mut self, call: Call, set: &ClockSet, args: &Args, before: &State) -> Result<(), Difference> {
+        let [port, plain, checked] = [0, 1, 2].map(|side| self.answers[side].end);
+        if let Some(number) = self.added {
+            self.parted.push(Parted { call, ends: [None, None, Some(port)], row: row_added(number) });
+            if port != End::Refused(number) {
+                return differs(call, format!("refusal {number} expected, port {port:?}"));
+            }
+            return same_state(call, "before the call", before, &self.port);
+        }
+        if !matches!(checked, End::Trapped(_)) {
+            self.same_end(call, "plain", 1, checked)?;
+            self.same_end(call, "port", 0, checked)?;
+            if !call.changes() {
+                return same_state(call, "before the call", before, &self.port);
+            }
+            self.like_plain(call)?;
+            return self.like_checked(call);
+        }
+        let (plain_set, checked_set) = (&set.plain, &set.checked);
+        let handed = Handed { origin: self.origin, state: before, words: &set.words, plain_set, checked_set, args };
+        let Some(parting) = rows::parting(call, &handed, plain, checked) else {
+            return differs(call, format!("no row of docs/DIFFERENCES.md: plain {plain:?}, checked {checked:?}"));
+        };
+        self.parted.push(Parted { call, ends: [plain, checked, port].map(Some), row: parting.row });
+        self.parts(call, parting, &handed)
+    }
+
+    /// Whether a side ended as the checked build did, and answered the same words.
+    fn same_end(&self, call: Call, name: &str, side: usize, end: End) -> Result<(), Difference> {
+        let [answer, checked] = [side, 2].map(|side| &self.answers[side]);
+        let gives = if end == End::Done { call.gives() } else { 0 };
+        let [given, expected] = [answer, checked].map(|answer| &answer.words[1..=gives]);
+        if answer.end == end && given == expected {
             return Ok(());
         }
-        differs(call, format!("refusal {number} and no change expected, port {:?}", self.answers[0].end))
+        differs(call, format!("{end:?} {expected:x?} expected, {name} {:?} {given:x?}", answer.end))
     }
 
-    fn compare(&mut self, call: Call, sets: &Sets, args: &Args) -> Result<(), Difference> {
-        let [port, plain, checked] = &self.answers;
-        let early = checked.end == End::Trapped(Trap::Subtract) && before_start(sets, args);
-        let expected = if early { plain } else { checked };
-        let Some(end) = refusal(expected.end) else {
-            return differs(call, format!("the Rust traps: {:?}", expected.end));
-        };
-        let gives = if end == End::Done { call.gives() } else { 0 };
-        if port.end != end || port.words[1..=gives] != expected.words[1..=gives] {
-            let words = [port, expected].map(|answer| answer.words[1..=gives].to_vec());
-            return differs(call, format!("{end:?} {:x?} expected, port {:?} {:x?}", words[1], port.end, words[0]));
+    /// Whether the port did as the row has it. A build whose state isn't what the row wants is given the port's.
+    fn parts(&mut self, call: Call, parting: Parting, handed: &Handed) -> Result<(), Difference> {
+        let [port, plain, _] = &self.answers;
+        if port.end != parting.end {
+            return differs(call, format!("{:?} expected by {}, port {:?}", parting.end, parting.row, port.end));
         }
-        let trapped = expected.end != end;
-        if call.changes() {
-            self.compare_states(call, early, trapped)?;
+        if port.end == End::Done && port.words[1..=call.gives()] != plain.words[1..=call.gives()] {
+            return differs(call, format!("an answer that isn't the plain build's, in {}", parting.row));
         }
+        match parting.like {
+            Like::Both => {
+                self.like_plain(call)?;
+                return self.like_checked(call);
+            }
+            Like::Plain => self.like_plain(call)?,
+            Like::Checked => self.like_checked(call)?,
+            Like::PlainUpToTheSum => {
+                let left = rows::plain_up_to_the_sum(handed).expect("the row holds where the call comes to the sum");
+                same_state(call, "plain up to the sum", &left, &self.port)?;
+            }
+        }
+        self.plain = Plain::state(&self.port);
+        self.checked = Checked::state(&self.port);
         Ok(())
     }
 
-    /// The state after a call: of the plain build where the checked one trapped before the clock's start, of the checked
-    /// one where a trap is a refusal, and of both, which must agree, otherwise. A build that was left behind catches up.
-    fn compare_states(&mut self, call: Call, early: bool, trapped: bool) -> Result<(), Difference> {
-        if early {
-            self.checked = Checked::state(&self.port);
-        } else {
-            Checked::words(&self.checked, &mut self.left);
-            same_state(call, "checked", &self.left, &self.port)?;
-        }
-        if trapped && !early {
-            self.plain = Plain::state(&self.port);
-        } else {
-            Plain::words(&self.plain, &mut self.left);
-            same_state(call, "plain", &self.left, &self.port)?;
-        }
-        Ok(())
+    /// Whether the port's state is the plain build's.
+    fn like_plain(&mut self, call: Call) -> Result<(), Difference> {
+        Plain::words(&self.plain, &mut self.left);
+        same_state(call, "plain", &self.left, &self.port)
     }
-}
 
-/// How the port ends where the Rust ends so; none for a trap that the papers don't know.
-fn refusal(end: End) -> Option<End> {
-    match end {
-        End::Trapped(Trap::Overflow) => Some(End::Refused(7)),
-        End::Trapped(Trap::Divide) => Some(End::Refused(2)),
-        End::Trapped(_) => None,
-        end => Some(end),
+    fn like_checked(&mut self, call: Call) -> Result<(), Difference> {
+        Checked::words(&self.checked, &mut self.left);
+        same_state(call, "checked", &self.left, &self.port)
     }
 }
 
@@ -149,12 +207,12 @@ fn differs(call: Call, what: String) -> Result<(), Difference> {
     Err(Difference { call, what })
 }
 
-fn same_state(call: Call, build: &str, rust: &[u64], port: &State) -> Result<(), Difference> {
-    match (0..iic::STATE).find(|place| rust[*place] != port[*place]) {
+fn same_state(call: Call, whose: &str, expected: &[u64], port: &State) -> Result<(), Difference> {
+    match (0..iic::STATE).find(|place| expected[*place] != port[*place]) {
         None => Ok(()),
         Some(place) => differs(
             call,
-            format!("state word {place} ({}): {build} {:#x}, port {:#x}", name(place), rust[place], port[place]),
+            format!("state word {place} ({}): {whose} {:#x}, port {:#x}", name(place), expected[place], port[place]),
         ),
     }
 }
@@ -170,13 +228,6 @@ pub fn added(call: Call, state: &State) -> Option<u8> {
     let [present, _, remaining, phase] = core::array::from_fn(|i| state[iic::FRAME + i]);
     let sound = present == 0 || if phase == 0 { (1..=8).contains(&remaining) } else { remaining == 0 };
     (!sound).then_some(10)
-}
-
-/// Whether the time is before the start of the system clock, where the Rust's half count subtracts.
-fn before_start(sets: &Sets, args: &Args) -> bool {
-    let system = layout::domain(&sets.words, 0);
-    let now = if system[4] != 0 { layout::time_at(args, 0) } else { layout::time_at(system, 5) };
-    now < layout::time_at(system, 0)
 }
 
 /// The field that a word belongs to.

@@ -1,13 +1,13 @@
 //! The peripheral: runs of calls from the default, and a few calls from states made at random.
 pub mod machine;
+mod rare;
 mod runs;
-mod scenes;
+pub mod scenes;
 mod states;
-mod tally;
-mod trial;
+pub mod tally;
+pub mod trial;
 use crate::inputs;
 use crate::options::Options;
-use machine::Machine;
 use std::time::Instant;
 use tally::Tally;
 use traffic::exact;
@@ -36,13 +36,14 @@ pub fn compare(options: &Options) -> u64 {
     }
     let seconds = start.elapsed().as_secs_f64();
     tally.print();
+    let missing = tally.rare.print(&tally, options);
     println!(
         "iic: seed {}, {} calls, each with 14 questions after it, {seconds:.1} s, {:.2} million calls a second",
         options.seed,
         tally.calls(),
         tally.calls() as f64 / seconds / 1e6
     );
-    tally.differences
+    tally.differences + missing
 }
 
 /// A set as `Clocks::new` makes it, at any frequency and start, and a time at which a run begins.
@@ -114,5 +115,5 @@ fn from_made(random: &mut Random, tally: &mut Tally) {
     let state = states::random(random, &set, now);
     let host = Host::over_state(random, now, clock);
     let length = 1 + random.below(6);
-    Trial::new(set, Machine::new(&state), tally::ACCEPTED, tally).play(random, host, length);
+    Trial::made(set, &state, now, tally).play(random, host, length);
 }

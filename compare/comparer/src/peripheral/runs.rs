@@ -1,6 +1,9 @@
 //! Runs of calls, each compared, and the smallest run that shows a difference.
-use super::machine::{Difference, Machine, Sets};
+use super::machine::{ClockSet, Difference, Machine};
+use super::tally;
+use crate::differences::peripheral::Origin;
 use crate::shrink;
+use traffic::random::Random;
 use words::calls::End;
 use words::iic::{Call, State};
 use words::layout::{Args, Set};
@@ -11,8 +14,14 @@ pub type Step = (Call, Args);
 pub struct Run {
     pub set: Set,
     pub state: State,
+    pub origin: Origin,
     pub steps: Vec<Step>,
 }
+
+/// Where the arguments of a step have what the questions after it are asked with, which the call itself doesn't look at: an
+/// address for `peek`, whose bits 0 to 2 are 0, and a byte of enables.
+const PEEKED: usize = 4;
+const RETAINED: usize = 5;
 
 /// What the questions after a call were answered.
 pub struct Asked {
@@ -20,27 +29,35 @@ pub struct Asked {
     pub deadline_end: End,
     /// The deadline, where there is one.
     pub deadline: Option<u128>,
+    /// Whether a retained enable is all that makes an interrupt.
+    pub retained_alone: bool,
+}
+
+/// Puts any address and any enables into the arguments of a step, the same for a number.
+pub fn put_questions(number: u64, args: &mut Args) {
+    let mixed = Random::new(number).word();
+    args[PEEKED] = mixed & 0xfff8;
+    args[RETAINED] = mixed >> 16 & 0xff;
 }
 
 /// After a call: all that can be asked.
-pub fn ask(machine: &mut Machine, sets: &Sets, args: &Args) -> Result<Asked, Difference> {
+pub fn ask(machine: &mut Machine, set: &ClockSet, args: &Args) -> Result<Asked, Difference> {
     let mut questions = *args;
-    // Any address whose bits 0 to 2 are 0, and any enables.
-    questions[2] = args[1] & 0xfff8;
-    questions[3] = args[1] >> 16 & 0xff;
-    machine.call(Call::Observe, sets, &questions)?;
-    machine.call(Call::Validate, sets, args)?;
+    questions[2..4].copy_from_slice(&[args[PEEKED], args[RETAINED]]);
+    machine.call(Call::Observe, set, &questions)?;
+    let interrupts = [12, 13].map(|place| machine.answer().words[place]);
+    machine.call(Call::Validate, set, args)?;
     let validated = machine.answer().end;
-    machine.call(Call::Deadline, sets, args)?;
+    machine.call(Call::Deadline, set, args)?;
     let answer = machine.answer();
     let known = answer.end == End::Done && answer.words[1] != 0;
     let deadline = known.then(|| words::layout::time_at(&answer.words, 2));
-    Ok(Asked { validated, deadline_end: answer.end, deadline })
+    Ok(Asked { validated, deadline_end: answer.end, deadline, retained_alone: interrupts == [0, 1] })
 }
 
 impl Run {
     pub fn new(set: Set, machine: &Machine) -> Self {
-        Self { set, state: *machine.state(), steps: Vec::new() }
+        Self { set, state: *machine.state(), origin: machine.origin(), steps: Vec::new() }
     }
 
     /// The step at which the run shows a difference, and the difference.
@@ -50,10 +67,10 @@ impl Run {
 
     /// The same of other steps.
     fn at(&self, steps: &[Step]) -> Option<(usize, Difference)> {
-        let sets = Sets::new(self.set);
-        let mut machine = Machine::new(&self.state);
+        let set = ClockSet::new(self.set);
+        let mut machine = Machine::new(&self.state, self.origin);
         for (place, (call, args)) in steps.iter().enumerate() {
-            let asked = machine.call(*call, &sets, args).and_then(|()| ask(&mut machine, &sets, args).map(|_| ()));
+            let asked = machine.call(*call, &set, args).and_then(|()| ask(&mut machine, &set, args).map(|_| ()));
             if let Err(difference) = asked {
                 return Some((place, difference));
             }
@@ -71,19 +88,41 @@ impl Run {
         self.steps = steps;
     }
 
-    pub fn print(&self) {
-        println!("difference: the peripheral");
+    /// Prints the run and its difference; the one that was found where the run shows none by itself.
+    pub fn print(&self, found: &Difference) {
+        println!("difference: the peripheral, a run from {}", tally::name(self.origin));
         println!("  set: {}", hex(&self.set));
         println!("  state: {}", hex(&self.state));
         for (call, args) in &self.steps {
-            println!("  {}:{:016x} {call:?} {:x} {:x}", args[0], args[1], args[2], args[3]);
+            print!("  {}:{:016x} {call:?} {:x} {:x}", args[0], args[1], args[2], args[3]);
+            println!("; then the questions, with {:x} peeked at and {:x} retained", args[PEEKED], args[RETAINED]);
         }
-        if let Some((_, difference)) = self.difference() {
-            println!("  {:?}: {}", difference.call, difference.what);
-        }
+        let again = self.difference();
+        let difference = again.as_ref().map_or(found, |(_, difference)| difference);
+        println!("  {:?}: {}", difference.call, difference.what);
     }
 }
 
 fn hex(words: &[u64]) -> String {
     words.iter().map(|word| format!("{word:x}")).collect::<Vec<_>>().join(" ")
+}
+
+#[cfg(test)]
+mod tests {
+    use super::*;
+    use std::collections::BTreeSet;
+
+    /// From step to step both what is peeked at and what is retained change, and take on all values.
+    #[test]
+    fn questions_vary() {
+        let asked = |number: u64| {
+            let mut args = [0; words::layout::ARGS];
+            put_questions(number, &mut args);
+            assert_eq!((args[PEEKED] & 7, args[PEEKED] >> 16, args[RETAINED] >> 8), (0, 0, 0));
+            [args[PEEKED], args[RETAINED]]
+        };
+        let distinct = |place: usize| (0..100_000).map(|number| asked(number)[place]).collect::<BTreeSet<_>>().len();
+        assert_eq!([0, 1].map(distinct), [1 << 13, 1 << 8]);
+        assert!((0..1000).all(|number| asked(number) != asked(number + 1)));
+    }
 }

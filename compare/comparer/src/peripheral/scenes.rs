@@ -1,17 +1,17 @@
-//! Short runs from the default into corners that a host hardly finds.
+//! Short runs from the default into states that a host hardly finds.
 use super::trial::Trial;
 use traffic::exact;
-use words::iic::{self, Call};
+use words::iic::{self, Call, State};
 use words::layout;
 
+/// A peripheral whose calls are made one by one, each compared; all that is done with it is none once a difference is found.
 pub struct Stage<'a, 'b> {
     trial: &'a mut Trial<'b>,
     clock: exact::Clock,
     begin: u128,
-    now: u128,
+    pub now: u128,
 }
 
-/// None once a difference is found.
 type Scene = fn(&mut Stage) -> Option<()>;
 
 pub const ALL: [Scene; 10] = [
@@ -27,46 +27,69 @@ pub const ALL: [Scene; 10] = [
     extended_past_the_counts,
 ];
 
+/// Visits after which given levels have passed the filter: one latches them, the next sees them again.
+const FILTERED_AFTER: usize = 2;
+
 /// Plays a scene, and tells the time after it.
 pub fn play(trial: &mut Trial, clock: exact::Clock, now: u128, scene: Scene) -> Option<u128> {
-    let mut stage = Stage { trial, clock, begin: now, now };
+    let mut stage = Stage::new(trial, clock, now);
     scene(&mut stage)?;
     Some(stage.now)
 }
 
-impl Stage<'_, '_> {
-    fn call(&mut self, call: Call, operands: [u64; 2]) -> Option<()> {
+impl<'a, 'b> Stage<'a, 'b> {
+    pub fn new(trial: &'a mut Trial<'b>, clock: exact::Clock, now: u128) -> Self {
+        Self { trial, clock, begin: now, now }
+    }
+
+    pub fn state(&self) -> &State {
+        self.trial.state()
+    }
+
+    pub fn call(&mut self, call: Call, operands: [u64; 2]) -> Option<()> {
         let mut args = [0; layout::ARGS];
         args[..2].copy_from_slice(&layout::halves(self.now));
         args[2..4].copy_from_slice(&operands);
         self.trial.step((call, args)).map(|_| ())
     }
 
-    fn write(&mut self, address: u64, value: u64) -> Option<()> {
+    pub fn write(&mut self, address: u64, value: u64) -> Option<()> {
         self.call(Call::Write, [address, value])
     }
 
-    fn gate(&mut self, gate: u64) -> Option<()> {
+    pub fn gate(&mut self, gate: u64) -> Option<()> {
         self.call(Call::SetGate, [gate, 0])
     }
 
     /// Visits at the time of the half wait at that place of the state.
     fn visit(&mut self, place: usize) -> Option<()> {
-        self.now = exact::half_edge(&self.clock, self.trial.state()[place + 1]);
+        self.now = exact::half_edge(&self.clock, self.state()[place + 1]);
         self.call(Call::Advance, [0, 0])
     }
 
     /// Levels that pass the filter.
-    fn levels(&mut self, scl: u64, sda: u64) -> Option<()> {
+    pub fn levels(&mut self, scl: u64, sda: u64) -> Option<()> {
         self.call(Call::InputPins, [scl, sda])?;
-        while self.trial.state()[iic::FILTER_WAIT] != 0 {
-            self.now = exact::edge(&self.clock, self.trial.state()[iic::FILTER_WAIT + 4]);
+        for _ in 0..FILTERED_AFTER {
+            if self.state()[iic::FILTER_WAIT] == 0 {
+                return Some(());
+            }
+            self.now = exact::edge(&self.clock, self.state()[iic::FILTER_WAIT + 4]);
             self.call(Call::Advance, [0, 0])?;
         }
+        let waits = self.state()[iic::FILTER_WAIT] != 0;
+        assert!(!waits, "levels {scl} {sda} haven't passed the filter after {FILTERED_AFTER} visits");
         Some(())
     }
 
-    fn bits(&mut self, byte: u64, count: u32) -> Option<()> {
+    /// A start, seen by others.
+    pub fn start(&mut self) -> Option<()> {
+        self.levels(1, 0)?;
+        self.levels(0, 0)
+    }
+
+    /// Bits of a byte, high ones first, each up to the fall behind it.
+    pub fn bits(&mut self, byte: u64, count: u32) -> Option<()> {
         (0..count).rev().try_for_each(|bit| {
             let sda = byte >> bit & 1;
             [0, 1, 0].into_iter().try_for_each(|scl| self.levels(scl, sda))
@@ -78,8 +101,7 @@ impl Stage<'_, '_> {
         self.gate(1)?;
         self.write(5, 0xa0)?;
         self.write(0, 0x80)?;
-        self.levels(1, 0)?;
-        self.levels(0, 0)?;
+        self.start()?;
         self.bits(0xa0 << 1, 9)?;
         self.bits(0x55, 8)
     }
@@ -182,7 +204,7 @@ fn extended_past_the_counts(stage: &mut Stage) -> Option<()> {
     stage.levels(0, 0)?;
     [1, 0].repeat(8).into_iter().try_for_each(|scl| {
         stage.visit(iic::CLOCK_WAIT)?;
-        let sda = stage.trial.state()[iic::DRIVE + 1];
+        let sda = stage.state()[iic::DRIVE + 1];
         stage.levels(scl, sda)
     })
 }

@@ -9,6 +9,31 @@ use words::layout::{self, Set};
 pub fn random(random: &mut Random, set: &Set, now: u128) -> State {
     let mut state = [0; iic::STATE];
     let unsound = random.once_in(6);
+    put_registers(random, unsound, &mut state);
+    put_flags(random, &mut state);
+    for place in [iic::FILTER_WAIT, iic::SETUP_WAIT] {
+        put_wait(random, set, now, unsound, &mut state[place..=place + layout::WAIT]);
+    }
+    for place in [iic::CLOCK_WAIT, iic::MONITOR_WAIT] {
+        put_half(random, set, now, &mut state[place..place + 3]);
+    }
+    // A condition, a command and a hold, by their numbers; each may be absent.
+    for (place, once_in, numbers) in [(iic::CONDITION, 4, 7), (iic::COMMAND, 3, 2), (iic::HOLD, 4, 2)] {
+        if random.once_in(once_in) {
+            state[place..place + 2].copy_from_slice(&[1, random.below(numbers)]);
+        }
+    }
+    if !random.once_in(4) {
+        put_frame(random, unsound, &mut state[iic::FRAME..iic::SELECTED]);
+    }
+    if random.once_in(2) {
+        put_eighth_fall(random, now, unsound, &mut state[iic::EIGHTH_FALL..iic::STALE_RELEASE]);
+    }
+    state
+}
+
+/// The nine registers: mostly enabled, and `seen` mostly within the status.
+fn put_registers(random: &mut Random, unsound: bool, state: &mut State) {
     state[..iic::BUSY].fill_with(|| random.word() & 0xff);
     state[iic::CONTROL] |= random.pick(&[0, 0x80, 0x80, 0x80]);
     state[iic::SEEN] &= random.pick(&[state[iic::STATUS], state[iic::STATUS], 0xff]);
@@ -16,6 +41,10 @@ pub fn random(random: &mut Random, set: &Set, now: u128) -> State {
         state[iic::MODE] &= 0xc0;
         state[iic::COUNT] &= 7;
     }
+}
+
+/// Flags and levels: mostly gated on and out of reset.
+fn put_flags(random: &mut Random, state: &mut State) {
     let flags = [iic::BUSY, iic::RESET, iic::GATE, iic::SYNCHRONIZED_HOLD, iic::SELECTED, iic::COMPLETED];
     let more = [iic::RECEIVE_ENABLED, iic::RECEIVE_STOPPED, iic::STALE_RELEASE];
     for place in flags.into_iter().chain(more).chain(iic::DRIVE..iic::FILTER_WAIT) {
@@ -30,31 +59,14 @@ pub fn random(random: &mut Random, set: &Set, now: u128) -> State {
         state[iic::LATCH] = new;
         state[iic::FILTERED] = old;
     }
-    for place in [iic::FILTER_WAIT, iic::SETUP_WAIT] {
-        put_wait(random, set, now, unsound, &mut state[place..=place + layout::WAIT]);
-    }
-    for place in [iic::CLOCK_WAIT, iic::MONITOR_WAIT] {
-        put_half(random, set, now, &mut state[place..place + 3]);
-    }
-    if random.once_in(4) {
-        state[iic::CONDITION..iic::COMMAND].copy_from_slice(&[1, random.below(7)]);
-    }
-    if random.once_in(3) {
-        state[iic::COMMAND..iic::FRAME].copy_from_slice(&[1, random.below(2)]);
-    }
-    if random.once_in(4) {
-        state[iic::HOLD..iic::RECEIVE_ENABLED].copy_from_slice(&[1, random.below(2)]);
-    }
-    if !random.once_in(4) {
-        put_frame(random, unsound, &mut state[iic::FRAME..iic::SELECTED]);
-    }
-    if random.once_in(2) {
-        let before = if random.once_in(2) { 0 } else { u128::from(random.any_length()) };
-        let fall = if unsound { now.wrapping_add(before) } else { now.saturating_sub(before) };
-        state[iic::EIGHTH_FALL] = 1;
-        state[iic::EIGHTH_FALL + 1..iic::STALE_RELEASE].copy_from_slice(&layout::halves(fall));
-    }
-    state
+}
+
+/// Now or earlier; in an unsound state now or later.
+fn put_eighth_fall(random: &mut Random, now: u128, unsound: bool, out: &mut [u64]) {
+    let away = if random.once_in(2) { 0 } else { u128::from(random.any_length()) };
+    let fall = if unsound { now.wrapping_add(away) } else { now.saturating_sub(away) };
+    let [seconds, fraction] = layout::halves(fall);
+    out.copy_from_slice(&[1, seconds, fraction]);
 }
 
 fn put_frame(random: &mut Random, unsound: bool, out: &mut [u64]) {

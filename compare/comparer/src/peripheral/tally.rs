@@ -1,4 +1,6 @@
 //! Counts of calls, by where their run began and how they ended.
+use super::rare::Rare;
+use crate::differences::peripheral::Origin;
 use crate::report::Partings;
 use words::calls::End;
 
@@ -6,13 +8,14 @@ use words::calls::End;
 const NUMBERS: [u8; 8] = [1, 2, 7, 8, 9, 10, 11, 12];
 
 /// Ends of calls by the number of the refusal.
-type Refusals = [u64; NUMBERS.len()];
+pub type Refusals = [u64; NUMBERS.len()];
 
-/// Where a run begins: at the default, or at a state made at random that `validate` accepts or refuses.
-pub const ORIGINS: [&str; 3] = ["the default", "accepted states", "refused states"];
-pub const DEFAULT: usize = 0;
-pub const ACCEPTED: usize = 1;
-pub const REFUSED: usize = 2;
+/// Where a run begins, by the number of the origin.
+const ORIGINS: [&str; 3] = ["the default", "accepted states", "refused states"];
+
+pub fn name(origin: Origin) -> &'static str {
+    ORIGINS[origin as usize]
+}
 
 #[derive(Default)]
 pub struct Tally {
@@ -23,15 +26,22 @@ pub struct Tally {
     pub deadlines: Refusals,
     pub validated: Refusals,
     pub partings: Partings,
+    pub rare: Rare,
     pub differences: u64,
 }
 
-pub fn count(refusals: &mut Refusals, end: End) {
+/// How often a refusal was counted.
+pub fn refusals(counts: &Refusals, number: u8) -> u64 {
+    NUMBERS.iter().zip(counts).filter(|(n, _)| **n == number).map(|(_, count)| count).sum()
+}
+
+/// Counts an end; an error for a refusal that the peripheral doesn't draw.
+pub fn count(refusals: &mut Refusals, end: End) -> Result<(), String> {
     if let End::Refused(number) = end {
-        if let Some(place) = NUMBERS.iter().position(|n| *n == number) {
-            refusals[place] += 1;
-        }
+        let place = NUMBERS.iter().position(|n| *n == number);
+        refusals[place.ok_or(format!("{number}, a refusal that the peripheral doesn't draw"))?] += 1;
     }
+    Ok(())
 }
 
 impl Tally {

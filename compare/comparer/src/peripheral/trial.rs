@@ -1,12 +1,13 @@
 //! A run under way: what was called, and everybody's peripheral.
-use super::machine::{Machine, Sets};
+use super::machine::{ClockSet, Difference, Machine};
+use super::rare::Seen;
 use super::runs::{self, Asked, Run};
-use super::tally::{count, Tally, DEFAULT, ORIGINS, REFUSED};
+use super::tally::{self, count, Tally};
+use crate::differences::peripheral::Origin;
 use traffic::host::Host;
 use traffic::random::Random;
-use words::calls::End;
 use words::iic::{Call, State};
-use words::layout::{Args, Set};
+use words::layout::{self, Args, Set};
 
 /// Differences that are printed.
 const SHOWN: u64 = 3;
@@ -15,21 +16,23 @@ const LULL: u64 = 60;
 
 pub struct Trial<'a> {
     machine: Machine,
-    sets: Sets,
+    set: ClockSet,
     run: Run,
-    origin: usize,
+    /// The deadline after the last call.
+    deadline: Option<u128>,
     tally: &'a mut Tally,
 }
 
 impl<'a> Trial<'a> {
-    pub fn new(set: Set, machine: Machine, origin: usize, tally: &'a mut Tally) -> Self {
-        Self { run: Run::new(set, &machine), machine, sets: Sets::new(set), origin, tally }
+    fn new(set: ClockSet, machine: Machine, tally: &'a mut Tally) -> Self {
+        tally.runs[machine.origin() as usize] += 1;
+        Self { run: Run::new(set.words, &machine), machine, set, deadline: None, tally }
     }
 
     /// From the default; none where that differs.
     pub fn fresh(set: Set, tally: &'a mut Tally) -> Option<Self> {
         match Machine::fresh() {
-            Ok(machine) => Some(Self::new(set, machine, DEFAULT, tally)),
+            Ok(machine) => Some(Self::new(ClockSet::new(set), machine, tally)),
             Err(difference) => {
                 tally.differences += 1;
                 println!("difference: the state before the first call: {}", difference.what);
@@ -38,41 +41,57 @@ impl<'a> Trial<'a> {
         }
     }
 
+    /// From a state that is made, at a time.
+    pub fn made(set: Set, state: &State, now: u128, tally: &'a mut Tally) -> Self {
+        let set = ClockSet::new(set);
+        let mut args = [0; layout::ARGS];
+        args[..2].copy_from_slice(&layout::halves(now));
+        let machine = Machine::made(state, &set, &args);
+        Self::new(set, machine, tally)
+    }
+
     pub fn state(&self) -> &State {
         self.machine.state()
     }
 
     /// Makes a call and all questions after it, everywhere. At a difference it shows the smallest run and answers none.
-    pub fn step(&mut self, (call, args): (Call, Args)) -> Option<Asked> {
-        let called = self.machine.call(call, &self.sets, &args);
-        count(&mut self.tally.refused, self.machine.answer().end);
-        if let Some(ends) = self.machine.ends() {
-            self.tally.partings.add(ends, || format!("{call:?} from {}", ORIGINS[self.origin]));
-        }
-        let asked = called.and_then(|()| runs::ask(&mut self.machine, &self.sets, &args));
-        if self.run.steps.is_empty() {
-            if asked.as_ref().is_ok_and(|asked| asked.validated != End::Done) {
-                self.origin = REFUSED;
-            }
-            self.tally.runs[self.origin] += 1;
-        }
+    pub fn step(&mut self, (call, mut args): (Call, Args)) -> Option<Asked> {
+        runs::put_questions(self.tally.calls(), &mut args);
+        let asked = self.ask(call, &args);
         self.run.steps.push((call, args));
-        self.tally.calls[self.origin] += 1;
-        match asked {
-            Ok(asked) => {
-                count(&mut self.tally.deadlines, asked.deadline_end);
-                count(&mut self.tally.validated, asked.validated);
-                Some(asked)
-            }
-            Err(_) => {
-                self.tally.differences += 1;
-                if self.tally.differences <= SHOWN {
-                    self.run.shorten();
-                    self.run.print();
-                }
-                None
+        let origin = self.machine.origin();
+        self.tally.calls[origin as usize] += 1;
+        for parted in self.machine.parted.drain(..) {
+            let call = || format!("{:?} from {}", parted.call, tally::name(origin));
+            self.tally.partings.add(call, parted.ends, Some(parted.row));
+        }
+        if let Err(difference) = &asked {
+            self.tally.differences += 1;
+            if self.tally.differences <= SHOWN {
+                self.run.shorten();
+                self.run.print(difference);
             }
         }
+        asked.ok()
+    }
+
+    /// A call and all questions after it.
+    fn ask(&mut self, call: Call, args: &Args) -> Result<Asked, Difference> {
+        let before = *self.state();
+        self.machine.call(call, &self.set, args)?;
+        let end = self.machine.answer().end;
+        let asked = runs::ask(&mut self.machine, &self.set, args)?;
+        let tally = &mut self.tally;
+        count(&mut tally.refused, end)
+            .and_then(|()| count(&mut tally.deadlines, asked.deadline_end))
+            .and_then(|()| count(&mut tally.validated, asked.validated))
+            .map_err(|what| Difference { call, what })?;
+        if self.machine.origin() == Origin::Default {
+            let (deadline, after) = (self.deadline, self.machine.state());
+            tally.rare.look(&Seen { call, args, end, before: &before, deadline, after, asked: &asked });
+        }
+        self.deadline = asked.deadline;
+        Ok(asked)
     }
 
     /// Lets a host make calls.

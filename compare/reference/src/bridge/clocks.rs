@@ -5,27 +5,11 @@ use crate::mcu::clocks::{Clocks, Frequencies, Tap};
 use crate::time::TimeError;
 use crate::{Error, Time};
 use words::calls::Call;
-use words::layout::{self, Args, PRESCALER_S, PRESCALER_W, STAGES_S, STAGES_W};
+use words::layout::{self, Args, PRESCALER_S, STAGES_S, STAGES_W};
 
 /// The calls that are handed no clock set.
 pub fn plain(call: Call, args: &Args, out: &mut [u64]) -> Result<(), Error> {
     match call {
-        Call::CrossingsS => out[0] = crossings::<STAGES_S>(args),
-        Call::CrossingsW => out[0] = crossings::<STAGES_W>(args),
-        Call::TicksS => out[0] = prescaler_ticks::<STAGES_S>(args, parent(args, PRESCALER_S), stage(args, PRESCALER_S)),
-        Call::TicksW => out[0] = prescaler_ticks::<STAGES_W>(args, parent(args, PRESCALER_W), stage(args, PRESCALER_W)),
-        Call::HighS => {
-            out[0] = u64::from(prescaler_high::<STAGES_S>(args, parent(args, PRESCALER_S), stage(args, PRESCALER_S)))
-        }
-        Call::HighW => {
-            out[0] = u64::from(prescaler_high::<STAGES_W>(args, parent(args, PRESCALER_W), stage(args, PRESCALER_W)))
-        }
-        Call::ParentEdgeS => {
-            out[0] = parent_edge::<STAGES_S>(args, parent(args, PRESCALER_S), stage(args, PRESCALER_S))?
-        }
-        Call::ParentEdgeW => {
-            out[0] = parent_edge::<STAGES_W>(args, parent(args, PRESCALER_W), stage(args, PRESCALER_W))?
-        }
         Call::DomainNew => inside::domain_new(inside::time(args, 0), args[2], args[3], out)?,
         Call::DomainTime => put_time(inside::domain_time(args, now(args)).ok_or(TimeError::ZeroFrequency)?, out),
         Call::DomainTicks => out[0] = inside::domain_ticks(args, now(args)).ok_or(TimeError::ZeroFrequency)?,
@@ -45,9 +29,28 @@ pub fn plain(call: Call, args: &Args, out: &mut [u64]) -> Result<(), Error> {
         Call::ClocksHasZero => out[0] = 1,
         Call::WaitValidate => inside::wait(args).validate()?,
         Call::WaitUses => out[0] = u64::from(inside::wait(args).uses(inside::tap(&args[layout::WAIT..]))),
+        Call::CrossingsS | Call::TicksS | Call::HighS | Call::ParentEdgeS => {
+            out[0] = prescaled::<STAGES_S>(call, args)?
+        }
+        Call::CrossingsW | Call::TicksW | Call::HighW | Call::ParentEdgeW => {
+            out[0] = prescaled::<STAGES_W>(call, args)?
+        }
         _ => return time::answer(call, args, out),
     }
     Ok(())
+}
+
+/// The calls of a prescaler with so many stages: its words, the stage, and a count of its parent or a tick.
+fn prescaled<const N: usize>(call: Call, args: &Args) -> Result<u64, Error> {
+    let behind = layout::DIVIDER + N;
+    match call {
+        Call::CrossingsS | Call::CrossingsW => Ok(crossings::<N>(args)),
+        Call::TicksS | Call::TicksW => Ok(prescaler_ticks::<N>(args, parent(args, behind), stage(args, behind))),
+        Call::HighS | Call::HighW => {
+            Ok(u64::from(prescaler_high::<N>(args, parent(args, behind), stage(args, behind))))
+        }
+        _ => parent_edge::<N>(args, parent(args, behind), stage(args, behind)),
+    }
 }
 
 /// The calls that are handed a clock set.

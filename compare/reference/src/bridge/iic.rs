@@ -4,9 +4,12 @@ use crate::mcu::clocks::Clocks;
 use crate::mcu::iic::Iic;
 use crate::Error;
 use words::calls::Answer;
-use words::iic::{Call, Peripheral, State};
+use words::iic::{self, Call, Peripheral, State};
 use words::layout::Args;
 use words::{Put, Reader, Take};
+
+// Every word of the Rust's state is compared.
+const _: () = assert!(<Iic as Put>::COUNT == iic::STATE, "the state's words aren't those of the Rust's fields");
 
 impl Peripheral for Bridge {
     type State = Iic;

@@ -46,16 +46,13 @@ fn trap(reason: &(dyn Any + Send)) -> Trap {
         (_, Some(text)) => text.as_str(),
         _ => "",
     };
-    if text == "attempt to subtract with overflow" {
-        Trap::Subtract
-    } else if text.ends_with("with overflow") {
-        Trap::Overflow
-    } else if text.contains("zero") {
-        Trap::Divide
-    } else if text.contains("out of bounds") {
-        Trap::Index
-    } else {
-        Trap::Other
+    match text {
+        "attempt to subtract with overflow" => Trap::Subtract,
+        "attempt to add with overflow" => Trap::Overflow,
+        "attempt to shift left with overflow" => Trap::Shift,
+        "attempt to divide by zero" => Trap::Divide,
+        _ if text.contains("out of bounds") => Trap::Index,
+        _ => Trap::Other,
     }
 }
 
