@@ -143,12 +143,15 @@ mod tests {
     /// Of nothing at all each is missing, by name; in a short run nothing needs to come up, and from one origin not all.
     #[test]
     fn what_never_came_up_is_missing() {
-        let options = |words: [&str; 4]| options::read(words.map(String::from).into_iter()).unwrap();
-        let (rare, tally) = (Rare::default(), Tally::default());
-        assert_eq!(rare.print(&tally, &options(["--count", "999999", "--from", "all"])), 0);
-        let missing =
-            ["all", "default", "made"].map(|from| rare.print(&tally, &options(["--count", "1000000", "--from", from])));
-        assert_eq!(missing, [37, 29, 8]);
+        let missing = |count: &str, from: &str| {
+            let words = ["--part", "iic", "--count", count, "--from", from].map(String::from);
+            let [(_, options)] = &options::read(words.into_iter()).unwrap()[..] else {
+                panic!("one part is asked for")
+            };
+            Rare::default().print(&Tally::default(), options)
+        };
+        assert_eq!(missing("999999", "all"), 0);
+        assert_eq!(["all", "default", "made"].map(|from| missing("1000000", from)), [37, 29, 8]);
     }
 
     /// The visits beside and at a deadline, and the read at the eighth fall, are told from their neighbours.
