@@ -115,7 +115,7 @@ pub fn difference(function: &Function, set: &Set, args: &Args, judge: &Judge, ex
     }
 }
 
-fn shown(words: &[u64]) -> String {
+pub fn shown(words: &[u64]) -> String {
     let each: Vec<String> = words.iter().map(|word| format!("{word:#x}")).collect();
     each.join(" ")
 }

@@ -2,7 +2,7 @@
 use super::machine::{ClockSet, Difference, Machine};
 use super::tally;
 use crate::differences::peripheral::Origin;
-use crate::shrink;
+use crate::{report, shrink};
 use traffic::random::Random;
 use words::calls::End;
 use words::iic::{Call, State};
@@ -91,8 +91,8 @@ impl Run {
     /// Prints the run and its difference; the one that was found where the run shows none by itself.
     pub fn print(&self, found: &Difference) {
         println!("difference: the peripheral, a run from {}", tally::name(self.origin));
-        println!("  set: {}", hex(&self.set));
-        println!("  state: {}", hex(&self.state));
+        println!("  set: {}", report::shown(&self.set));
+        println!("  state: {}", report::shown(&self.state));
         for (call, args) in &self.steps {
             print!("  {}:{:016x} {call:?} {:x} {:x}", args[0], args[1], args[2], args[3]);
             println!("; then the questions, with {:x} peeked at and {:x} retained", args[PEEKED], args[RETAINED]);
@@ -101,10 +101,6 @@ impl Run {
         let difference = again.as_ref().map_or(found, |(_, difference)| difference);
         println!("  {:?}: {}", difference.call, difference.what);
     }
-}
-
-fn hex(words: &[u64]) -> String {
-    words.iter().map(|word| format!("{word:x}")).collect::<Vec<_>>().join(" ")
 }
 
 #[cfg(test)]

@@ -2,7 +2,6 @@
 use super::trial::Trial;
 use traffic::exact;
 use words::iic::{self, Call, State};
-use words::layout;
 
 /// A peripheral whose calls are made one by one, each compared; all that is done with it is none once a difference is found.
 pub struct Stage<'a, 'b> {
@@ -47,10 +46,7 @@ impl<'a, 'b> Stage<'a, 'b> {
     }
 
     pub fn call(&mut self, call: Call, operands: [u64; 2]) -> Option<()> {
-        let mut args = [0; layout::ARGS];
-        args[..2].copy_from_slice(&layout::halves(self.now));
-        args[2..4].copy_from_slice(&operands);
-        self.trial.step((call, args)).map(|_| ())
+        self.trial.step((call, iic::args(self.now, operands))).map(|_| ())
     }
 
     pub fn write(&mut self, address: u64, value: u64) -> Option<()> {

@@ -4,15 +4,11 @@ use super::rare::Seen;
 use super::runs::{self, Asked, Run};
 use super::tally::{self, count, Tally};
 use crate::differences::peripheral::Origin;
-use traffic::host::Host;
+use crate::shrink::SHOWN;
+use traffic::host::{Host, LULL};
 use traffic::random::Random;
-use words::iic::{Call, State};
-use words::layout::{self, Args, Set};
-
-/// Differences that are printed.
-const SHOWN: u64 = 3;
-/// Calls without any deadline after which a run ends.
-const LULL: u64 = 60;
+use words::iic::{self, Call, State};
+use words::layout::{Args, Set};
 
 pub struct Trial<'a> {
     machine: Machine,
@@ -44,9 +40,7 @@ impl<'a> Trial<'a> {
     /// From a state that is made, at a time.
     pub fn made(set: Set, state: &State, now: u128, tally: &'a mut Tally) -> Self {
         let set = ClockSet::new(set);
-        let mut args = [0; layout::ARGS];
-        args[..2].copy_from_slice(&layout::halves(now));
-        let machine = Machine::made(state, &set, &args);
+        let machine = Machine::made(state, &set, &iic::args(now, [0, 0]));
         Self::new(set, machine, tally)
     }
 

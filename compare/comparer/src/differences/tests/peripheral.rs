@@ -20,9 +20,7 @@ struct Left {
 }
 
 fn args(now: [u64; 2], operands: [u64; 2]) -> Args {
-    let mut args = [0; layout::ARGS];
-    args[..4].copy_from_slice(&[now[0], now[1], operands[0], operands[1]]);
-    args
+    iic::args(layout::joined(now[0], now[1]), operands)
 }
 
 /// Runs a call on a state that is handed in, in the plain build, the checked one and the port. The tables allow the ends by the
