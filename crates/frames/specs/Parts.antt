@@ -109,6 +109,7 @@ abbrev pub isDoneIn : Framing → Bool
 isDoneIn NoFrame = false
 isDoneIn (InFrame f) = isDone (f .phase)
 
+-- the bits to go that a phase allows (904)
 abbrev pub progressAt : Phase → ℕ → Bool
 progressAt Data n = ltb 0 n && ltb n 9
 progressAt Ack n = eqb n 0

@@ -86,6 +86,7 @@ sendOnOf now k s = cond (isTransmitHold (s .core .hold)) (releaseHoldOf now k (o
 unfoldable pub writeDataOf : ℕ → Time → Clocks → Iic → Stepped
 writeDataOf value now k s = andThen (sendOnOf now k (onCore (giveDataOf value) s)) (kickOf now k)
 
+-- by the register (262)
 unfoldable pub writeAt : Register → ℕ → Time → Clocks → Iic → Stepped
 writeAt ICCR1 value now k s = writeControlOf value now k s
 writeAt ICCR2 value now k s = writeCommandOf value now k s

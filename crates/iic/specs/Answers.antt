@@ -21,6 +21,7 @@ fine s = record { ended = Finished; state = s }
 abbrev pub refused : ℕ → Iic → Stepped
 refused n s = record { ended = Refused n; state = s }
 
+-- by how the step ended
 abbrev pub goOn : Ended → Stepped → (Iic → Stepped) → Stepped
 goOn Finished o f = f (o .state)
 goOn (Refused n) o f = o
@@ -33,6 +34,7 @@ andThen o f = goOn (o .ended) o f
 abbrev pub guarded : ℕ → Iic → Stepped → Stepped
 guarded g s o = cond (eqb g 0) o (refused g s)
 
+-- a value, or the number of the refusal
 abbrev pub byteOf : Ended → ℕ → Byte
 byteOf Finished v = byte.Is v
 byteOf (Refused n) v = byte.Refused n
@@ -41,6 +43,7 @@ byteOf (Refused n) v = byte.Refused n
 abbrev pub answered : Stepped → ℕ → ReadOut
 answered o v = record { answer = byteOf (o .ended) v; state = o .state }
 
+-- the same for a truth
 abbrev pub truthOf : Ended → Bool → Truth
 truthOf Finished b = truth.Is b
 truthOf (Refused n) b = truth.Refused n

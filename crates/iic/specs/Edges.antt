@@ -34,6 +34,7 @@ abbrev pub longer : MaybeHalf → Iic → Stepped
 longer NoHalf s = fine s
 longer (Half w) s = clockFrom (madeHalf (w .paused) (fits (w .count + 4 * periodOf (s .core .registers .control)))) s
 
+-- where WAIT asks for it (752)
 unfoldable pub insertWaitOf : Iic → Stepped
 insertWaitOf s = cond (insertsWait (s .core)) (longer (s .core .«clock_wait») s) (fine s)
 
@@ -41,6 +42,7 @@ insertWaitOf s = cond (insertsWait (s .core)) (longer (s .core .«clock_wait») 
 unfoldable pub fallAckOf : Frame → Time → Iic → Stepped
 fallAckOf f now s = insertWaitOf (onCore (fallTakenOf f now) s)
 
+-- by the phase (726)
 abbrev pub fallAt : Phase → Frame → Time → Iic → Stepped
 fallAt Data f now s = fine (setCore (fallDataOf (loadTransmitOf (s .core))) s)
 fallAt Ack f now s = fallAckOf f now s
@@ -57,6 +59,7 @@ fallOf now s = fallIn (s .core .frame) now s
 abbrev pub fallOn : Time → Iic → Stepped
 fallOn now s = fallOf now (onCore followOf s)
 
+-- a condition under way is left alone, a command starts, a frame that is through ends (695 to 709)
 unfoldable pub fallingOf : Time → Clocks → Iic → Stepped
 fallingOf now k s =
     cond (conditioned (s .core)) (fine s)

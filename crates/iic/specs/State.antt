@@ -5,6 +5,7 @@ use Rattle.steps.specs.declared.Core.{Core}
 use Rattle.waits.specs.declared.MaybeWait.the-variants.{NoWait}
 use Rattle.waits.specs.declared.MaybeWait.{MaybeWait}
 
+-- one part set anew
 abbrev pub setCore : Core → Iic → Iic
 setCore x s = record { core = x; «filter_wait» = s .«filter_wait»; «setup_wait» = s .«setup_wait» }
 

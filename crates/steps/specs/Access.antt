@@ -49,6 +49,7 @@ peekAt ICDRR s = s .registers .rdr
 
 -- ## `read_at`: ICDRR
 
+-- the eighth fall was at this very time (233)
 abbrev pub fellNow : EighthFall → Time → Bool
 fellNow NoFall now = false
 fellNow (FellAt t) now = sameTime t now
@@ -84,6 +85,7 @@ takeControlOf value s =
 abbrev pub stopsReceive : Core → Bool
 stopsReceive s = synchronous s && not (transmits s) && has (s .registers .control) RCVD && not (framed s)
 
+-- it receives nothing more (292)
 unfoldable pub stopReceiveOf : Core → Core
 stopReceiveOf s = setReceiveEnabled (s .flags .«receive_enabled» && not (stopsReceive s)) s
 
@@ -126,6 +128,7 @@ writeEnableOf value s = setEnable (bitOr (without value ACKBR) (bitAnd (s .regis
 abbrev pub statusLeft : ℕ → Core → ℕ
 statusLeft value s = without (s .registers .status) (without (s .registers .seen) value)
 
+-- and `seen` keeps what is left (339)
 unfoldable pub writeStatusOf : ℕ → Core → Core
 writeStatusOf value s = setStatus (statusLeft value s) (setSeen (bitAnd (s .registers .seen) (statusLeft value s)) s)
 

@@ -49,6 +49,7 @@ busEdgeOf old s =
 
 -- ## `kick`: a command
 
+-- the first stage of a start, or of a stop (803)
 abbrev pub firstCondition : Bool → Condition
 firstCondition start = cond start StartRelease StopLow
 

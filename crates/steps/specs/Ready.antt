@@ -42,6 +42,7 @@ canReceive s =
 abbrev pub frameDue : Core → Bool
 frameDue s = not (framed s) && (s .flags .busy || synchronous s) && (canTransmit s || canReceive s)
 
+-- a frame begins where one is due (822)
 unfoldable pub nextFrameOf : Core → Core
 nextFrameOf s = cond (frameDue s) (beginFrameOf false s) s
 
@@ -63,6 +64,7 @@ lowHalfOf level s = setDrive (levels false (cond (s .lines .filtered .scl) (s .l
 
 -- ## `release_hold`: SDA as the frame has it (780)
 
+-- the acknowledge, or the bit to send (781)
 abbrev pub releasedLevel : Phase → Frame → Core → Bool
 releasedLevel Data f s = dataLevel f
 releasedLevel Ack f s = has (s .registers .enable) ACKBT

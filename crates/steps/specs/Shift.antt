@@ -91,6 +91,7 @@ overrunOf s = raise AL (clearControl MST (unclocked (driveScl true s)))
 unfoldable pub storedOf : ℕ → Core → Core
 storedOf b s = raise RDRF (setRdr (ordered (has (s .registers .mode) MLS) b) s)
 
+-- stored, or overrun (678)
 unfoldable pub receivedOf : ℕ → Core → Core
 receivedOf b s = cond (synchronous s && has (s .registers .status) RDRF) (overrunOf s) (storedOf b s)
 
@@ -102,6 +103,7 @@ receives f s = (master s || s .flags .selected || synchronous s) && not (f .addr
 abbrev pub completedOf : Core → Core
 completedOf s = setCount 0 (setCompleted true s)
 
+-- what was sent is acknowledged, what was received is stored (665)
 unfoldable pub completeFrameOf : Frame → Bool → Core → Core
 completeFrameOf f sda s =
     cond (f .transmit) (drainedOf (acknowledgedOf sda (completedOf s)))
@@ -113,6 +115,7 @@ completeFrameOf f sda s =
 abbrev pub loses : Frame → Bool → Core → Bool
 loses f sda s = f .transmit && master s && s .lines .drive .sda && not sda && not (synchronous s)
 
+-- arbitration is lost, or not (528, 617)
 unfoldable pub whenLostOf : Bool → Core → Core
 whenLostOf lost s = cond lost (arbitrationLostOf s) s
 
@@ -126,6 +129,7 @@ selectOf b s =
     setControl (bitOr (without (s .registers .control) TRS) (flag (isRead b) TRS))
     (raise (flag (isRead b) TDRE) (raise (flag (isGeneralCall b) ADZ) (raise AAS s)))
 
+-- selected, or not (625)
 unfoldable pub matchedOf : ℕ → Core → Core
 matchedOf b s = cond (hits b s) (selectOf b (setSelected true s)) (setSelected false s)
 
@@ -138,6 +142,7 @@ unfoldable pub finishedOf : Bool → Core → Core
 finishedOf last s =
     cond last (setReceiveStopped true (setReceiveEnabled false (unclocked (driveScl true s)))) s
 
+-- synchronous mode has no acknowledge (640)
 unfoldable pub endSynchronousOf : Frame → Bool → Core → Core
 endSynchronousOf f sda s = setFrame (InFrame (phased Done f)) (finishedOf (f .last) (completeFrameOf f sda s))
 
@@ -145,6 +150,7 @@ endSynchronousOf f sda s = setFrame (InFrame (phased Done f)) (finishedOf (f .la
 abbrev pub endBits : Frame → Bool → Core → Core
 endBits f sda s = cond (synchronous s) (endSynchronousOf f sda s) (setFrame (InFrame (phased Ack f)) s)
 
+-- an address is compared first (624)
 unfoldable pub lastBitOf : Frame → Bool → Core → Core
 lastBitOf f sda s = endBits f sda (addressedOf f s)
 
@@ -152,6 +158,7 @@ lastBitOf f sda s = endBits f sda (addressedOf f s)
 abbrev pub bitTaken : Frame → Bool → Core → Core
 bitTaken f sda s = cond (eqb (f .remaining) 0) (lastBitOf f sda s) (setFrame (InFrame f) s)
 
+-- a bit is sampled, after a look at who drives SDA (616)
 unfoldable pub risingDataOf : Frame → Bool → Core → Core
 risingDataOf f sda s = bitTaken (sampled (loses f sda s) sda f) sda (whenLostOf (loses f sda s) s)
 
@@ -159,6 +166,7 @@ risingDataOf f sda s = bitTaken (sampled (loses f sda s) sda f) sda (whenLostOf 
 unfoldable pub risingAckOf : Frame → Bool → Core → Core
 risingAckOf f sda s = setFrame (InFrame (phased Done f)) (completeFrameOf f sda s)
 
+-- by the phase (615)
 abbrev pub risingAt : Phase → Frame → Bool → Core → Core
 risingAt Data f sda s = risingDataOf f sda s
 risingAt Ack f sda s = risingAckOf f sda s

@@ -129,6 +129,7 @@ clearFlags m s = setStatus (without (s .registers .status) m) (setSeen (without 
 abbrev pub clearControl : ℕ → Core → Core
 clearControl m s = setControl (without (s .registers .control) m) s
 
+-- what is driven on one line; true releases it
 abbrev pub driveScl : Bool → Core → Core
 driveScl b s = setDrive (levels b (s .lines .drive .sda)) s
 

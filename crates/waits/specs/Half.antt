@@ -35,6 +35,7 @@ abbrev pub leftOf : ℕ → Count → Count
 leftOf n (count.Of t) = differenceOf n t
 leftOf n (count.Refused e) = count.Refused e
 
+-- running to a count, or paused with so many left (20)
 abbrev pub halfWait : Bool → ℕ → HalfWait
 halfWait p n = record { count = n; paused = p }
 

@@ -23,6 +23,7 @@ monitorWaits = 15 ∷ 39 ∷ 35 ∷ 83 ∷ []
 abbrev pub setupWaits : List ℕ
 setupWaits = 10 ∷ 20 ∷ []
 
+-- by CKS2 to CKS0 (181)
 unfoldable pub rate : ℕ → ℕ
 rate control = getD halfClocks (bitAnd control 7) 0
 
@@ -30,8 +31,10 @@ rate control = getD halfClocks (bitAnd control 7) 0
 unfoldable pub periodOf : ℕ → ℕ
 periodOf control = cond (has control CKS3) (2 * rate control) (rate control)
 
+-- by CKS3 and CKS2 (881)
 unfoldable pub monitorHalves : ℕ → ℕ
 monitorHalves control = getD monitorWaits (bitAnd (control / 4) 3) 0
 
+-- by CKS3 (777)
 unfoldable pub setupCycles : ℕ → ℕ
 setupCycles control = getD setupWaits (bitAnd (control / 8) 1) 0

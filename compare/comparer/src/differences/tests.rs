@@ -2,7 +2,7 @@
 //! page names, and that the tables allow it by the row of the test's name.
 mod peripheral;
 use super::{functions, peripheral as machines};
-use crate::inputs::{plain_set, FREQUENCIES as DEFAULT};
+use crate::inputs::{counted, plain_set, FREQUENCIES as DEFAULT};
 use crate::judge::{self, Judge};
 use words::calls::{self, Answer, Call, End, Reference};
 use words::layout::{self, Set};
@@ -63,14 +63,6 @@ fn staged(stages: usize, counted: u64, stage: u64, parent: u64) -> Vec<u64> {
 /// The system prescaler's.
 fn prescaler(counted: u64, stage: u64, parent: u64) -> Vec<u64> {
     staged(layout::STAGES_S, counted, stage, parent)
-}
-
-/// A set whose prescalers have counted that much at each stage.
-fn counted(counted: u64) -> Set {
-    let mut set = plain_set(0, DEFAULT);
-    set[layout::AT_S + layout::DIVIDER..layout::AT_W].fill(counted);
-    set[layout::AT_W + layout::DIVIDER..].fill(counted);
-    set
 }
 
 /// The fraction at which an edge of the default system clock falls.

@@ -13,6 +13,15 @@ pub fn plain_set(start: u128, frequencies: [u64; layout::FREQUENCIES]) -> Set {
     set
 }
 
+/// A set of the default frequencies from time 0 whose prescalers have counted that much at each stage.
+#[cfg(test)]
+pub fn counted(counted: u64) -> Set {
+    let mut set = plain_set(0, super::FREQUENCIES);
+    set[layout::AT_S + layout::DIVIDER..layout::AT_W].fill(counted);
+    set[layout::AT_W + layout::DIVIDER..].fill(counted);
+    set
+}
+
 fn written(start: u128, [main, watch, on_chip]: [u64; layout::FREQUENCIES]) -> Set {
     let [seconds, fraction] = layout::halves(start);
     let mut set = [0; layout::SET];

@@ -5,6 +5,8 @@ pub mod grid;
 mod numbers;
 mod objects;
 use focus::Focus;
+#[cfg(test)]
+pub use fresh::counted;
 pub use fresh::plain_set;
 pub use numbers::{divider, start, word};
 pub use objects::set;

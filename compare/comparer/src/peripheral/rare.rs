@@ -163,8 +163,7 @@ mod tests {
         state[iic::EIGHTH_FALL..iic::STALE_RELEASE].copy_from_slice(&[1, 0, 9]);
         for now in 7..=11 {
             for call in [Call::Advance, Call::Read] {
-                let mut args = [0; layout::ARGS];
-                args[1..3].copy_from_slice(&[now, 7]);
+                let args = iic::args(now, [7, 0]);
                 let (before, after) = (&state, &state);
                 let deadline = Some(9);
                 rare.look(&Seen { call, args: &args, end: End::Done, before, deadline, after, asked: &asked });

@@ -159,17 +159,14 @@ fn each_change_is_a_difference() {
 /// The same at the partings that hardly come up: their tests' inputs.
 #[test]
 fn each_change_at_a_sum_is_a_difference() {
-    let mut set = plain_set(0, FREQUENCIES);
-    set[layout::AT_S + layout::DIVIDER..layout::AT_W].fill(u64::MAX);
-    set[layout::AT_W + layout::DIVIDER..].fill(u64::MAX);
+    let set = inputs::counted(u64::MAX);
     let mut late = set;
     late[0] = 1;
     let mut state = port::iic::fresh();
     state[iic::CLOCK_WAIT..iic::MONITOR_WAIT].copy_from_slice(&[1, 0, 1]);
     state[iic::FILTER_WAIT..iic::CLOCK_WAIT].copy_from_slice(&[1, 2, 8, 1, u64::MAX, 0]);
-    let mut args = [0; layout::ARGS];
-    args[1] = 8 << (64 - 15);
-    args[2] = 1;
+    // The eighth edge of 32,768 Hz.
+    let args = iic::args(8 << (64 - 15), [1, 0]);
     for (set, row) in [(set, "prescaler_sum_of_a_wait"), (late, "prescaler_sum_after_a_level")] {
         let case = Case { set: ClockSet::new(set), state, call: Call::SetGate, args };
         let (machine, right) = case.judged(&|_| {});
