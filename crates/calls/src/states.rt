@@ -10,15 +10,14 @@ use clocks::wait::WaitState;
 use frames::Frame;
 use frames::Framing;
 use frames::Phase;
+use iic::Command;
+use iic::Condition;
+use iic::EighthFall;
+use iic::Flags;
+use iic::Hold;
 use iic::Iic;
-use steps::Command;
-use steps::Condition;
-use steps::Core;
-use steps::EighthFall;
-use steps::Flags;
-use steps::Hold;
-use steps::Lines;
-use steps::Registers;
+use iic::Lines;
+use iic::Registers;
 use time::Time;
 use waits::HalfWait;
 use waits::MaybeHalf;
@@ -157,8 +156,8 @@ fn fall_of(present: u64, seconds: u64, fraction: u64) -> EighthFall {
     EighthFall::FellAt(Time { seconds, fraction })
 }
 
-fn core_of(w: &[u64; 61]) -> Core {
-    Core {
+pub(crate) fn iic_of(w: &[u64; 61]) -> Iic {
+    Iic {
         registers: registers_of(w),
         lines: lines_of(w),
         flags: flags_of(w),
@@ -169,12 +168,6 @@ fn core_of(w: &[u64; 61]) -> Core {
         eighth_fall: fall_of(w[57], w[58], w[59]),
         clock_wait: half_of(w[26], w[27], w[28]),
         monitor_wait: half_of(w[29], w[30], w[31]),
-    }
-}
-
-pub(crate) fn iic_of(w: &[u64; 61]) -> Iic {
-    Iic {
-        core: core_of(w),
         filter_wait: wait_of(w, 20),
         setup_wait: wait_of(w, 32),
     }
@@ -346,34 +339,30 @@ fn put_fall(fall: EighthFall, w: &mut [u64; 61]) {
     }
 }
 
-fn put_halves(core: Core, w: &mut [u64; 61]) {
-    let clock_wait = core.clock_wait;
-    let monitor_wait = core.monitor_wait;
+fn put_waits(iic: Iic, w: &mut [u64; 61]) {
+    let clock_wait = iic.clock_wait;
+    let monitor_wait = iic.monitor_wait;
+    let filter_wait = iic.filter_wait;
+    let setup_wait = iic.setup_wait;
+    put_wait(filter_wait, w, 20);
     put_half(clock_wait, w, 26);
     put_half(monitor_wait, w, 29);
+    put_wait(setup_wait, w, 32);
 }
 
-fn put_core(core: Core, w: &mut [u64; 61]) {
-    let frame = core.frame;
-    let condition = core.condition;
-    let command = core.command;
-    let hold = core.hold;
-    let eighth_fall = core.eighth_fall;
-    put_registers(core.registers, w);
-    put_lines(core.lines, w);
-    put_flags(core.flags, w);
+pub(crate) fn put_iic(iic: Iic, w: &mut [u64; 61]) {
+    let frame = iic.frame;
+    let condition = iic.condition;
+    let command = iic.command;
+    let hold = iic.hold;
+    let eighth_fall = iic.eighth_fall;
+    put_registers(iic.registers, w);
+    put_lines(iic.lines, w);
+    put_flags(iic.flags, w);
     put_frame(frame, w);
     put_condition(condition, w);
     put_command(command, w);
     put_hold(hold, w);
     put_fall(eighth_fall, w);
-    put_halves(core, w);
-}
-
-pub(crate) fn put_iic(iic: Iic, w: &mut [u64; 61]) {
-    let filter_wait = iic.filter_wait;
-    let setup_wait = iic.setup_wait;
-    put_core(iic.core, w);
-    put_wait(filter_wait, w, 20);
-    put_wait(setup_wait, w, 32);
+    put_waits(iic, w);
 }

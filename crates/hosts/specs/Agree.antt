@@ -18,17 +18,16 @@ use Rattle.waits.specs.declared.Due.{Due}
 use Rattle.waits.specs.declared.Due.the-variants as due
 use Rattle.waits.specs.declared.MaybeWait.the-variants.{NoWait}
 use Rattle.waits.specs.declared.MaybeHalf.the-variants.{NoHalf}
-use Rattle.steps.specs.declared.Register.{Register}
-use Rattle.steps.specs.declared.Register.the-variants.{ICCR1, ICCR2, ICMR, ICIER, ICSR, SAR, ICDRT, ICDRR}
-use Rattle.steps.specs.Access.{registerAt}
+use Rattle.iic.specs.declared.Register.{Register}
+use Rattle.iic.specs.declared.Register.the-variants.{ICCR1, ICCR2, ICMR, ICIER, ICSR, SAR, ICDRT, ICDRR}
+use Rattle.iic.specs.Registers.{registerAt}
 use Rattle.iic.specs.Access.{readAt}
 use Rattle.iic.specs.Answers.{fine, goOn, andThen, guarded}
 use Rattle.iic.specs.Calls.{guardOf, takePinsOf, turnGateOf, visitOf, readOf, inputPinsOf, setGateOf, advanceOf}
 use Rattle.iic.specs.Clocking.{firing, filterFiresOf, stretchOf, clockStepOf, fireFilterOf, fireSetupOf, fireMonitorOf, fireClockOf}
 use Rattle.iic.specs.Kick.{kickOf}
-use Rattle.steps.specs.Setters.{setClockWait, setMonitorWait}
-use Rattle.iic.specs.State.{setSetupWait, onCore, defaultIic}
-use Rattle.steps.specs.State.{defaultCore, awake, driveScl}
+use Rattle.iic.specs.Setters.{setClockWait, setMonitorWait, setSetupWait}
+use Rattle.iic.specs.State.{defaultIic, awake, driveScl}
 use Rattle.waits.specs.Ends.{waitEnd, halfEnd, dueOf}
 use Rattle.hosts.specs.Calls.{Call, peek, read, write, inputPins, setGate, deadline, advance, pins, interrupt, interruptWithEnable, validate, Made, callOf, isRefusal, outcomeOf, Host, start, after, afterAll, hostWith, isNow, anyDue, idleRead, idle}
 use Rattle.hosts.specs.Demand3.{Left, played, left, leftOf, calls, IsKth, before, anyRefused, TwoHostsAgree}
@@ -62,24 +61,24 @@ filter-undue now k s e = undue (dueOf (waitEnd (s .«filter_wait») k) now) s (f
 
 setup-undue : (now : Time) (k : Clocks) (s : Iic) → isNow (dueOf (waitEnd (s .«setup_wait») k) now) ≡ false → fireSetupOf now k s .state ≡ s
 unfolding fireSetupOf
-setup-undue now k s e = undue (dueOf (waitEnd (s .«setup_wait») k) now) s (fine (setSetupWait NoWait (onCore (driveScl true) s))) e
+setup-undue now k s e = undue (dueOf (waitEnd (s .«setup_wait») k) now) s (fine (setSetupWait NoWait (driveScl true s))) e
 
-monitor-undue : (now : Time) (k : Clocks) (s : Iic) → isNow (dueOf (halfEnd (s .core .«monitor_wait») k) now) ≡ false → fireMonitorOf now k s .state ≡ s
+monitor-undue : (now : Time) (k : Clocks) (s : Iic) → isNow (dueOf (halfEnd (s .«monitor_wait») k) now) ≡ false → fireMonitorOf now k s .state ≡ s
 unfolding fireMonitorOf
-monitor-undue now k s e = undue (dueOf (halfEnd (s .core .«monitor_wait») k) now) s (stretchOf now k (onCore (setMonitorWait NoHalf) s)) e
+monitor-undue now k s e = undue (dueOf (halfEnd (s .«monitor_wait») k) now) s (stretchOf now k (setMonitorWait NoHalf s)) e
 
-clock-undue : (now : Time) (k : Clocks) (s : Iic) → isNow (dueOf (halfEnd (s .core .«clock_wait») k) now) ≡ false → fireClockOf now k s .state ≡ s
+clock-undue : (now : Time) (k : Clocks) (s : Iic) → isNow (dueOf (halfEnd (s .«clock_wait») k) now) ≡ false → fireClockOf now k s .state ≡ s
 unfolding fireClockOf
-clock-undue now k s e = undue (dueOf (halfEnd (s .core .«clock_wait») k) now) s (clockStepOf now k (onCore (setClockWait NoHalf) s)) e
+clock-undue now k s e = undue (dueOf (halfEnd (s .«clock_wait») k) now) s (clockStepOf now k (setClockWait NoHalf s)) e
 
-undue-visit : (now : Time) (k : Clocks) (s : Iic) (b : Bool) → awake (s .core) ≡ b → settled (s .core) ≡ true → anyDue k now s ≡ false → visitOf now k s .state ≡ s
+undue-visit : (now : Time) (k : Clocks) (s : Iic) (b : Bool) → awake s ≡ b → settled s ≡ true → anyDue k now s ≡ false → visitOf now k s .state ≡ s
 unfolding visitOf anyDue
 undue-visit now k s false e h d = rw e
 undue-visit now k s true e h d =
     let filter : Bool = isNow (dueOf (waitEnd (s .«filter_wait») k) now) in
     let setup : Bool = isNow (dueOf (waitEnd (s .«setup_wait») k) now) in
-    let monitor : Bool = isNow (dueOf (halfEnd (s .core .«monitor_wait») k) now) in
-    let clock : Bool = isNow (dueOf (halfEnd (s .core .«clock_wait») k) now) in
+    let monitor : Bool = isNow (dueOf (halfEnd (s .«monitor_wait») k) now) in
+    let clock : Bool = isNow (dueOf (halfEnd (s .«clock_wait») k) now) in
     let d3 : (filter || setup || monitor) ≡ false = or-left (filter || setup || monitor) clock d in
     let d2 : (filter || setup) ≡ false = or-left (filter || setup) monitor d3 in
     let o1 : Stepped = fireFilterOf now k s in
@@ -106,11 +105,11 @@ read-same SAR now k s e = refl
 read-same ICDRT now k s e = refl
 read-same ICDRR now k s e = absurd (false≢true e)
 
-pins-same : (given : Levels) (now : Time) (k : Clocks) (s : Iic) → sameLevels (s .core .lines .raw) given ≡ true → takePinsOf given now k s .state ≡ s
+pins-same : (given : Levels) (now : Time) (k : Clocks) (s : Iic) → sameLevels (s .lines .raw) given ≡ true → takePinsOf given now k s .state ≡ s
 unfolding takePinsOf
 pins-same given now k s e = rw e
 
-gate-same : (gate : Bool) (now : Time) (k : Clocks) (s : Iic) → Bool·beq (s .core .flags .gate) gate ≡ true → turnGateOf gate now k s .state ≡ s
+gate-same : (gate : Bool) (now : Time) (k : Clocks) (s : Iic) → Bool·beq (s .flags .gate) gate ≡ true → turnGateOf gate now k s .state ≡ s
 unfolding turnGateOf
 gate-same gate now k s e = rw e
 
@@ -182,7 +181,7 @@ runs-agree k (suc (suc n)) h (x ∷ l) (y ∷ m) p q r t a b e ok =
 
 -- the default is settled
 good-start : Good start
-unfolding start defaultIic defaultCore settled
+unfolding start defaultIic settled
 good-start e = refl
 
 -- ## Idle calls on the way

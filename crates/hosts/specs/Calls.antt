@@ -20,12 +20,11 @@ use Rattle.iic.specs.declared.Pins.{Pins}
 use Rattle.iic.specs.declared.Pins.the-variants.{NoPins, Driven}
 use Rattle.waits.specs.declared.Due.{Due}
 use Rattle.waits.specs.declared.Due.the-variants.{Now, NotNow, Refused as Unknown}
-use Rattle.steps.specs.declared.Register.{Register}
-use Rattle.steps.specs.declared.Register.the-variants.{ICCR1, ICCR2, ICMR, ICIER, ICSR, SAR, ICDRT, ICDRR}
-use Rattle.steps.specs.Access.{registerAt}
+use Rattle.iic.specs.declared.Register.{Register}
+use Rattle.iic.specs.declared.Register.the-variants.{ICCR1, ICCR2, ICMR, ICIER, ICSR, SAR, ICDRT, ICDRR}
+use Rattle.iic.specs.Registers.{registerAt}
 use Rattle.iic.specs.Calls.{peekOf, readOf, writeOf, inputPinsOf, setGateOf, deadlineOf, advanceOf, pinsOf, interruptWithEnableOf, validateOf}
-use Rattle.iic.specs.State.{defaultIic}
-use Rattle.steps.specs.State.{framed}
+use Rattle.iic.specs.State.{defaultIic, framed}
 use Rattle.waits.specs.Ends.{waitEnd, halfEnd, dueOf}
 
 -- ## Calls
@@ -141,7 +140,7 @@ start = record { state = defaultIic; lifted = false }
 
 -- document 01: IICRST in ICCR2 is 1 before the write and 0 after it
 abbrev pub lifts : Iic → Iic → Bool
-lifts before after = before .core .flags .reset && not (after .core .flags .reset)
+lifts before after = before .flags .reset && not (after .flags .reset)
 
 -- the one bit of history: a write that lifts the reset sets it, a visit clears it, answered or refused
 abbrev pub liftedAfter : Call → Bool → Iic → Iic → Bool
@@ -182,12 +181,12 @@ unfoldable pub anyDue : Clocks → Time → Iic → Bool
 anyDue k now s =
     isNow (dueOf (waitEnd (s .«filter_wait») k) now)
     || isNow (dueOf (waitEnd (s .«setup_wait») k) now)
-    || isNow (dueOf (halfEnd (s .core .«monitor_wait») k) now)
-    || isNow (dueOf (halfEnd (s .core .«clock_wait») k) now)
+    || isNow (dueOf (halfEnd (s .«monitor_wait») k) now)
+    || isNow (dueOf (halfEnd (s .«clock_wait») k) now)
 
 -- a frame is left that the state before didn't hold
 abbrev pub startsFrame : Iic → Iic → Bool
-startsFrame before after = not (framed (before .core)) && framed (after .core)
+startsFrame before after = not (framed before) && framed after
 
 -- a read of addresses 0 to 3, 5 or 6
 abbrev pub idleRead : Register → Bool
@@ -209,8 +208,8 @@ idleVisit k now h =
 -- whether a call that a host makes is idle, judged on the host's own state before it
 unfoldable pub idle : Clocks → Call → Host → Bool
 idle k (advance now) h = idleVisit k now h
-idle k (inputPins scl sda now) h = sameLevels (h .state .core .lines .raw) (levels scl sda)
-idle k (setGate gate now) h = Bool·beq (h .state .core .flags .gate) gate
+idle k (inputPins scl sda now) h = sameLevels (h .state .lines .raw) (levels scl sda)
+idle k (setGate gate now) h = Bool·beq (h .state .flags .gate) gate
 idle k (peek a) h = true
 idle k pins h = true
 idle k interrupt h = true

@@ -21,10 +21,9 @@ use Rattle.iic.specs.Clocking as Clocking
 use Rattle.iic.specs.Kick as Kick
 use Rattle.iic.specs.State as State
 use Rattle.iic.specs.Waiting as Waits
-use Rattle.steps.specs.Access as Registers
-use Rattle.steps.specs.Ready as Ready
-use Rattle.steps.specs.Shift as Shift
-use Rattle.steps.specs.State as Core
+use Rattle.iic.specs.Registers as Registers
+use Rattle.iic.specs.Ready as Ready
+use Rattle.iic.specs.Shift as Shift
 use Rattle.waits.specs.Ends as Ends
 use Rattle.waits.specs.Half as Half
 use Rattle.waits.specs.Rates as Rates
@@ -46,14 +45,13 @@ use Rattle.waits.specs.declared.MaybeWait.the-variants.{Waiting}
 use Rattle.waits.specs.declared.MaybeHalf.the-variants as maybe
 use Rattle.waits.specs.declared.NewHalf.{NewHalf}
 use Rattle.waits.specs.declared.NewHalf.the-variants as half
-use Rattle.steps.specs.Access.{stopReceiveOf}
+use Rattle.iic.specs.Registers.{stopReceiveOf}
 use Rattle.iic.specs.Answers.{fine, andThen, truthOf}
 use Rattle.waits.specs.Half.{halfAfter, halfWait}
 use Rattle.iic.specs.Kick.{kickOf}
-use Rattle.steps.specs.Setters.{setGate as gated, setControl, setAddress, setFrame, setDrive, setRaw, setReceiveEnabled, setClockWait}
+use Rattle.iic.specs.Setters.{setGate as gated, setControl, setAddress, setFrame, setDrive, setRaw, setReceiveEnabled, setClockWait, setFilterWait}
 use Rattle.bus.specs.Bus.{levels}
-use Rattle.steps.specs.State.{defaultCore}
-use Rattle.iic.specs.State.{setCore, setFilterWait, onCore, defaultIic}
+use Rattle.iic.specs.State.{defaultIic}
 use Rattle.iic.specs.Waiting.{clockFrom, filterFrom}
 use Rattle.hosts.specs.Calls as Hosts
 use Rattle.hosts.specs.Calls.{Call, write, inputPins, setGate, advance, Made, byValue, refusal, nothing, bit, ofEnd, ofTruth, Outcome, outcome, outcomeOf, Host, start, hostWith, afterAll, idle}
@@ -72,12 +70,12 @@ none-yet = none-before (late .system .clock) (timeOf (at 0) + 1) (lit< tt) (lit<
 
 -- a half wait is started all the same
 late-half : halfAfter (at 0) 28 late ≡ half.Made (halfWait false 29)
-unfolding Time.earlier Time.midway Time.momentOf Time.nextTime Time.sumOf Clock.afterOf Clock.edgeOf Clock.edgesBeforeOf Clock.zeroIn Clocks.hasZero Counts.fits Domain.domainHalfTicks Domain.domainTicks Domain.edgeOrLast Domain.halves Domain.halvesOf Domain.highBetween Domain.levelHigh Halves.halfTicks Half.halfAfter State.defaultIic Core.defaultCore Hosts.start
+unfolding Time.earlier Time.midway Time.momentOf Time.nextTime Time.sumOf Clock.afterOf Clock.edgeOf Clock.edgesBeforeOf Clock.zeroIn Clocks.hasZero Counts.fits Domain.domainHalfTicks Domain.domainTicks Domain.edgeOrLast Domain.halves Domain.halvesOf Domain.highBetween Domain.levelHigh Halves.halfTicks Half.halfAfter State.defaultIic Hosts.start
 late-half = rw none-yet refl
 
 -- a wait for an edge is refused
 pub late-wait : waitAfter (at 0) 1 (systemTap 1) late ≡ wait.Refused 7
-unfolding Time.momentOf Time.nextTime Clock.afterOf Clock.edgeOf Clock.edgesBeforeOf Clock.zeroIn Clocks.availableOf Clocks.fedBy Clocks.hasZero Clocks.routedEdge Clocks.routedTicks Clocks.sourceOf Clocks.tapEdge Clocks.tapTicks Domain.domainTicks Counts.fits Tap.routeOf Tap.routeS Tap.stageBelow Tap.stageOf Wait.dated Wait.edgeDeadline Wait.startedAt Wait.startedBy Wait.startedFor Wait.waitAfter State.defaultIic Core.defaultCore Hosts.start
+unfolding Time.momentOf Time.nextTime Clock.afterOf Clock.edgeOf Clock.edgesBeforeOf Clock.zeroIn Clocks.availableOf Clocks.fedBy Clocks.hasZero Clocks.routedEdge Clocks.routedTicks Clocks.sourceOf Clocks.tapEdge Clocks.tapTicks Domain.domainTicks Counts.fits Tap.routeOf Tap.routeS Tap.stageBelow Tap.stageOf Wait.dated Wait.edgeDeadline Wait.startedAt Wait.startedBy Wait.startedFor Wait.waitAfter State.defaultIic Hosts.start
 late-wait = rw none-yet refl
 
 -- 1 Hz from second 1 on: edge 1 is at second 2
@@ -88,7 +86,7 @@ no-tick-yet : edgesBefore (ticking .system .clock) (timeOf (at 0) + 1) ≡ 0
 no-tick-yet = none-before (ticking .system .clock) (timeOf (at 0) + 1) (lit< tt) (lit< tt) (lit≤ tt)
 
 ticking-wait : waitAfter (at 0) 1 (systemTap 1) ticking ≡ wait.Made (waitOf (systemTap 1) (Running 1))
-unfolding Time.momentOf Time.nextTime Clock.afterOf Clock.edgeOf Clock.edgesBeforeOf Clock.zeroIn Clocks.availableOf Clocks.fedBy Clocks.hasZero Clocks.routedEdge Clocks.routedTicks Clocks.sourceOf Clocks.tapEdge Clocks.tapTicks Domain.domainTicks Counts.fits Tap.routeOf Tap.routeS Tap.stageBelow Tap.stageOf Wait.dated Wait.edgeDeadline Wait.startedAt Wait.startedBy Wait.startedFor Wait.waitAfter State.defaultIic Core.defaultCore Hosts.start
+unfolding Time.momentOf Time.nextTime Clock.afterOf Clock.edgeOf Clock.edgesBeforeOf Clock.zeroIn Clocks.availableOf Clocks.fedBy Clocks.hasZero Clocks.routedEdge Clocks.routedTicks Clocks.sourceOf Clocks.tapEdge Clocks.tapTicks Domain.domainTicks Counts.fits Tap.routeOf Tap.routeS Tap.stageBelow Tap.stageOf Wait.dated Wait.edgeDeadline Wait.startedAt Wait.startedBy Wait.startedFor Wait.waitAfter State.defaultIic Hosts.start
 ticking-wait = rw no-tick-yet refl
 
 -- ## Hosts on the way
@@ -110,15 +108,15 @@ begun sends = record { shift = 0; remaining = 8; phase = Data; address = false; 
 -- a synchronous master that receives, SCL low
 abbrev receiving : Iic
 receiving =
-    setCore (setDrive (levels false true) (setReceiveEnabled true (setFrame (InFrame (begun false)) (setControl 0xa0 (setAddress 0x01 (gated true defaultCore)))))) defaultIic
+    setDrive (levels false true) (setReceiveEnabled true (setFrame (InFrame (begun false)) (setControl 0xa0 (setAddress 0x01 (gated true defaultIic)))))
 
 -- enabled by a write that was refused before its kick, a frame to begin
 abbrev unkicked : Iic
-unkicked = setCore (setControl 0x80 (setRaw (levels false true) (setAddress 0x01 (gated true defaultCore)))) defaultIic
+unkicked = setControl 0x80 (setRaw (levels false true) (setAddress 0x01 (gated true defaultIic)))
 
 -- enabled, SDA low as given
 abbrev fallen : Iic
-fallen = setCore (setRaw (levels true false) (setControl 0x80 (gated true defaultCore))) defaultIic
+fallen = setRaw (levels true false) (setControl 0x80 (gated true defaultIic))
 
 -- ## The rows
 
@@ -136,20 +134,20 @@ clock-rows :
     (calls (leftOf late (made (first ++ (write 0 0xa0 (at 0) ∷ advance (at 0) ∷ write 3 0x10 (at 0) ∷ []))))
     ≡ first ++ (write 0 0xa0 (at 0) ∷ write 3 0x10 (at 0) ∷ []))
     -- that visit is refused and changes nothing
-    × (outcomeOf late (advance (at 0)) (onCore (setClockWait (maybe.Half (halfWait false 29))) receiving)
-    ≡ outcome (refusal 7) (onCore (setClockWait (maybe.Half (halfWait false 29))) receiving))
+    × (outcomeOf late (advance (at 0)) (setClockWait (maybe.Half (halfWait false 29)) receiving)
+    ≡ outcome (refusal 7) (setClockWait (maybe.Half (halfWait false 29)) receiving))
     -- the first visit starts a frame, the second doesn't
     × (calls (leftOf late (made (second ++ (write 0 0x80 (at 0) ∷ advance (at 0) ∷ advance (at 0) ∷ []))))
     ≡ second ++ (write 0 0x80 (at 0) ∷ advance (at 0) ∷ []))
     -- the filter's wait is due at second 2 alone
     × (calls (leftOf ticking (made (third ++ (inputPins true false (at 0) ∷ advance (at 1) ∷ advance (at 3) ∷ advance (at 2) ∷ []))))
     ≡ third ++ (inputPins true false (at 0) ∷ advance (at 2) ∷ []))
-unfolding Time.midway Time.momentOf Time.sameTime Clock.afterOf Clock.edgeOf Clock.zeroIn Clocks.availableOf Clocks.fedBy Clocks.hasZero Clocks.routedEdge Clocks.sourceOf Clocks.tapEdge Domain.domainHalfEdge Domain.oddEdge Halves.halfEdge Counts.fits Tap.routeOf Tap.routeS Tap.routeW Tap.stageBelow Tap.stageOf Wait.dated Wait.edgeDeadline Wait.waitDeadline Registers.continuedOf Registers.controlSet Registers.enterResetOf Registers.giveDataOf Registers.peekAt Registers.pullSdaOf Access.readAt Access.readDataOf Parts.redirectFrame Registers.redirected Registers.registerAt Access.resumedOf Access.sendOnOf Registers.stopReceiveOf Registers.takeControlOf Registers.takenOf Registers.writeAddressOf Access.writeAt Access.outOfResetOf Access.writeControlOf Access.writeDataOf Registers.writeEnableOf Registers.writeModeOf Access.writeCommandOf Registers.writeStatusOf Iic.advanceOf Iic.guardOf Iic.inputPinsOf Iic.keepStretchedOf Iic.peekOf Iic.readOf Iic.setGateOf Iic.takePinsOf Iic.turnGateOf Iic.turnWaitsOf Iic.visitOf Iic.writeOf Clocking.fireClockOf Clocking.fireFilterOf Clocking.fireMonitorOf Clocking.fireSetupOf Half.halfDeadline Kick.clockFrameOf Kick.kickOf Kick.launchOf Ready.lowHalfOf Ready.nextFrameOf Shift.beginFrameOf Shift.loadTransmitOf Shift.setHoldOf State.defaultIic Core.defaultCore State.stopShifterOf Core.stopCoreOf Ends.dueOf Ends.halfEnd Rates.periodOf Rates.rate Waits.scheduleFilterOf Waits.startClockOf Waits.turnClockOf Waits.turnFilterOf Waits.turnMonitorOf Waits.turnSetupOf Ends.waitEnd Hosts.after Hosts.anyDue Hosts.idle Hosts.outcomeOf Hosts.start Demand3.left
+unfolding Time.midway Time.momentOf Time.sameTime Clock.afterOf Clock.edgeOf Clock.zeroIn Clocks.availableOf Clocks.fedBy Clocks.hasZero Clocks.routedEdge Clocks.sourceOf Clocks.tapEdge Domain.domainHalfEdge Domain.oddEdge Halves.halfEdge Counts.fits Tap.routeOf Tap.routeS Tap.routeW Tap.stageBelow Tap.stageOf Wait.dated Wait.edgeDeadline Wait.waitDeadline Registers.continuedOf Registers.controlSet Registers.enterResetOf Registers.giveDataOf Registers.peekAt Registers.pullSdaOf Access.readAt Access.readDataOf Parts.redirectFrame Registers.redirected Registers.registerAt Access.resumedOf Access.sendOnOf Registers.stopReceiveOf Registers.takeControlOf Registers.takenOf Registers.writeAddressOf Access.writeAt Access.outOfResetOf Access.writeControlOf Access.writeDataOf Registers.writeEnableOf Registers.writeModeOf Access.writeCommandOf Registers.writeStatusOf Iic.advanceOf Iic.guardOf Iic.inputPinsOf Iic.keepStretchedOf Iic.peekOf Iic.readOf Iic.setGateOf Iic.takePinsOf Iic.turnGateOf Iic.turnWaitsOf Iic.visitOf Iic.writeOf Clocking.fireClockOf Clocking.fireFilterOf Clocking.fireMonitorOf Clocking.fireSetupOf Half.halfDeadline Kick.clockFrameOf Kick.kickOf Kick.launchOf Ready.lowHalfOf Ready.nextFrameOf Shift.beginFrameOf Shift.loadTransmitOf Shift.setHoldOf State.defaultIic State.stopShifterOf Ends.dueOf Ends.halfEnd Rates.periodOf Rates.rate Waits.scheduleFilterOf Waits.startClockOf Waits.turnClockOf Waits.turnFilterOf Waits.turnMonitorOf Waits.turnSetupOf Ends.waitEnd Hosts.after Hosts.anyDue Hosts.idle Hosts.outcomeOf Hosts.start Demand3.left
 clock-rows =
-    let clocked : outcomeOf late (write 0 0xa0 (at 0)) (afterAll late start first .state) ≡ outcome nothing (onCore (setClockWait (maybe.Half (halfWait false 29))) receiving) =
+    let clocked : outcomeOf late (write 0 0xa0 (at 0)) (afterAll late start first .state) ≡ outcome nothing (setClockWait (maybe.Half (halfWait false 29)) receiving) =
     ap (λ (w : NewHalf). ofStep (clockFrom w receiving)) late-half in
     let refused : outcomeOf late (write 0 0x80 (at 0)) (afterAll late start second .state) ≡ outcome (refusal 7) unkicked =
-    ap (λ (w : NewWait). ofStep (andThen (andThen (filterFrom w unkicked) (λ u. fine (onCore stopReceiveOf u))) (kickOf (at 0) late))) late-wait in
+    ap (λ (w : NewWait). ofStep (andThen (andThen (filterFrom w unkicked) (λ u. fine (stopReceiveOf u))) (kickOf (at 0) late))) late-wait in
     let filtering : outcomeOf ticking (inputPins true false (at 0)) (afterAll ticking start third .state)
     ≡ outcome (bit true) (setFilterWait (Waiting (waitOf (systemTap 1) (Running 1))) fallen) =
     ap (λ (w : NewWait). outcome (ofTruth (truthOf (filterFrom w fallen .ended) true)) (filterFrom w fallen .state)) ticking-wait in (

@@ -15,7 +15,6 @@ use Rattle.clocks.specs.declared.wait.NewWait.the-variants as wait
 use Rattle.clocks.specs.Tap.{systemTap}
 use Rattle.clocks.specs.Wait.{waitAfter}
 use Rattle.iic.specs.declared.Iic.{Iic}
-use Rattle.steps.specs.declared.Core.{Core}
 use Rattle.iic.specs.declared.Ended.{Ended}
 use Rattle.iic.specs.declared.Ended.the-variants.{Finished, Refused}
 use Rattle.iic.specs.declared.Stepped.{Stepped}
@@ -26,19 +25,18 @@ use Rattle.waits.specs.declared.MaybeWait.{MaybeWait}
 use Rattle.waits.specs.declared.MaybeWait.the-variants.{NoWait, Waiting}
 use Rattle.waits.specs.declared.MaybeHalf.{MaybeHalf}
 use Rattle.waits.specs.declared.MaybeHalf.the-variants.{NoHalf, Half}
-use Rattle.steps.specs.declared.Register.{Register}
-use Rattle.steps.specs.declared.Register.the-variants.{ICCR1, ICCR2, ICMR, ICIER, ICSR, SAR, ICDRT, ICDRR}
-use Rattle.steps.specs.Access.{registerAt, takenOf, continuedOf, takeControlOf, stopReceiveOf, enterResetOf, pullSdaOf, takesCommand, writeModeOf, writeEnableOf, writeStatusOf, writeAddressOf, giveDataOf}
+use Rattle.iic.specs.declared.Register.{Register}
+use Rattle.iic.specs.declared.Register.the-variants.{ICCR1, ICCR2, ICMR, ICIER, ICSR, SAR, ICDRT, ICDRR}
+use Rattle.iic.specs.Registers.{registerAt, takenOf, continuedOf, takeControlOf, stopReceiveOf, enterResetOf, pullSdaOf, takesCommand, writeModeOf, writeEnableOf, writeStatusOf, writeAddressOf, giveDataOf}
 use Rattle.iic.specs.Access.{resumedOf, receiveOn, readDataOf, readAt, controlTaken, writeControlOf, commandFrom, outOfResetOf, writeCommandOf, sendOnOf, writeDataOf, writeAt}
 use Rattle.frames.specs.Parts.{recountIn, isData}
 use Rattle.iic.specs.Answers.{fine, andThen, guarded, byteOf, truthOf}
-use Rattle.steps.specs.Bits.{TDRE, NACKF, BC, BCWP, IICRST, SDAOP}
+use Rattle.iic.specs.Bits.{TDRE, NACKF, BC, BCWP, IICRST, SDAOP}
 use Rattle.iic.specs.Calls.{guardOf, peekOf, takePinsOf, keepStretchedOf, turnWaitsOf, turnGateOf, visitOf, readOf, writeOf, inputPinsOf, setGateOf, advanceOf}
-use Rattle.steps.specs.Filter.{observes}
+use Rattle.iic.specs.Filter.{observes}
 use Rattle.iic.specs.Clocking.{fireFilterOf, fireSetupOf, fireMonitorOf, fireClockOf}
-use Rattle.steps.specs.Setters.{setFrame, setSeen, setRaw, setGate, setReset, setClockWait, setMonitorWait}
-use Rattle.iic.specs.State.{setFilterWait, setSetupWait, stopShifterOf, onCore}
-use Rattle.steps.specs.State.{enabled, awake, transmits, conditioned, stopCoreOf}
+use Rattle.iic.specs.Setters.{setFrame, setSeen, setRaw, setGate, setReset, setClockWait, setMonitorWait, setFilterWait, setSetupWait}
+use Rattle.iic.specs.State.{stopShifterOf, enabled, awake, transmits, conditioned}
 use Rattle.iic.specs.Waiting.{wantsFilter, scheduleFilterOf, filterFrom, halfFrom, turnClockOf, turnFilterOf, turnHalfIn, turnMonitorOf, turnSetupOf, turnWaitIn, waitFrom}
 use Rattle.waits.specs.Ends.{turnHalf, turnWait}
 use Rattle.hosts.specs.Calls.{Call, peek, read, write, inputPins, deadline, advance, pins, interrupt, interruptWithEnable, validate, ofEnd, ofByte, ofTruth, isRefusal, outcomeOf, Host, lifts, after}
@@ -59,16 +57,16 @@ asleep true true r c h = absurd (true≢false h)
 asleep true false r c h = refl
 asleep false e r c h = refl
 
-pub off : (s : Core) → awake s ≡ false → settled s ≡ true
+pub off : (s : Iic) → awake s ≡ false → settled s ≡ true
 off s e = unready s (asleep (s .flags .gate) (enabled s) (not (s .flags .reset)) (not (conditioned s)) e)
 
-disabled : (s : Core) → enabled s ≡ false → settled s ≡ true
+disabled : (s : Iic) → enabled s ≡ false → settled s ≡ true
 disabled s e = off s (rw e (and-false (s .flags .gate)))
 
-ungated : (s : Core) → s .flags .gate ≡ false → settled s ≡ true
+ungated : (s : Iic) → s .flags .gate ≡ false → settled s ≡ true
 ungated s e = off s (rw e)
 
-in-reset : (s : Core) → s .flags .reset ≡ true → settled s ≡ true
+in-reset : (s : Iic) → s .flags .reset ≡ true → settled s ≡ true
 in-reset s e = unready s (rw e (rw (and-false (awake s))))
 
 -- ## `input_pins`
@@ -83,16 +81,16 @@ schedule-settles : (now : Time) (k : Clocks) (s : Iic) → Settled s → Settles
 unfolding scheduleFilterOf
 schedule-settles now k s h = schedule-at now k s (wantsFilter s) h
 
-pins-settles : (given : Levels) (now : Time) (k : Clocks) (s : Iic) (b : Bool) → sameLevels (s .core .lines .raw) given ≡ b → Settled s
+pins-settles : (given : Levels) (now : Time) (k : Clocks) (s : Iic) (b : Bool) → sameLevels (s .lines .raw) given ≡ b → Settled s
     → Settles (takePinsOf given now k s)
 unfolding takePinsOf settled
 pins-settles given now k s true e h = rw e h
-pins-settles given now k s false e h = rw e (schedule-settles now k (onCore (setRaw given) s) h)
+pins-settles given now k s false e h = rw e (schedule-settles now k (setRaw given s) h)
 
 -- ## `set_gate`
 
 abbrev Ungated : Iic → Type 0
-Ungated s = s .core .flags .gate ≡ false
+Ungated s = s .flags .gate ≡ false
 
 half-off : (set : MaybeHalf → Iic → Iic) → ((x : MaybeHalf) (s : Iic) → Ungated s → Ungated (set x s)) → (now : Time) (k : Clocks) (w : MaybeHalf) (s : Iic)
     → Ungated s → Leaves Ungated (turnHalfIn (halfFrom set) false now k w s)
@@ -109,8 +107,8 @@ off-1 : (now : Time) (k : Clocks) (s : Iic) → Ungated s → Leaves Ungated (an
 unfolding turnClockOf turnMonitorOf
 off-1 now k s h =
     then-leaves Ungated Ungated (turnClockOf false now k s) (turnMonitorOf false now k)
-    (half-off (λ x. onCore (setClockWait x)) (λ x t g. g) now k (s .core .«clock_wait») s h)
-    (λ t g. half-off (λ x. onCore (setMonitorWait x)) (λ x u f. f) now k (t .core .«monitor_wait») t g)
+    (half-off setClockWait (λ x t g. g) now k (s .«clock_wait») s h)
+    (λ t g. half-off setMonitorWait (λ x u f. f) now k (t .«monitor_wait») t g)
 
 waits-off : (now : Time) (k : Clocks) (s : Iic) → Ungated s → Leaves Ungated (turnWaitsOf false now k s)
 unfolding turnWaitsOf keepStretchedOf turnFilterOf turnSetupOf
@@ -124,21 +122,21 @@ waits-off now k s h =
     (λ t g. wait-off setFilterWait (λ x u f. f) now k (t .«filter_wait») t g))
     (λ t g. wait-off setSetupWait (λ x u f. f) now k (t .«setup_wait») t g)
 
-gate-settles : (gate : Bool) (now : Time) (k : Clocks) (s : Iic) (b : Bool) → Bool·beq (s .core .flags .gate) gate ≡ b → Settled s
+gate-settles : (gate : Bool) (now : Time) (k : Clocks) (s : Iic) (b : Bool) → Bool·beq (s .flags .gate) gate ≡ b → Settled s
     → Settles (turnGateOf gate now k s)
 unfolding turnGateOf
 gate-settles gate now k s true e h = rw e h
-gate-settles true now k s false e h = rw e (then-kick now k (andThen (turnWaitsOf true now k (onCore (setGate true) s)) (scheduleFilterOf now k)))
+gate-settles true now k s false e h = rw e (then-kick now k (andThen (turnWaitsOf true now k (setGate true s)) (scheduleFilterOf now k)))
 gate-settles false now k s false e h =
-    rw e (leaves-more Ungated Settled (turnWaitsOf false now k (onCore (setGate false) s)) (waits-off now k (onCore (setGate false) s) refl) (λ u. ungated (u .core)))
+    rw e (leaves-more Ungated Settled (turnWaitsOf false now k (setGate false s)) (waits-off now k (setGate false s) refl) ungated)
 
 -- ## `advance`
 
-visit-settles : (now : Time) (k : Clocks) (s : Iic) (b : Bool) → awake (s .core) ≡ b → Settles (visitOf now k s)
+visit-settles : (now : Time) (k : Clocks) (s : Iic) (b : Bool) → awake s ≡ b → Settles (visitOf now k s)
 unfolding visitOf
 visit-settles now k s true e =
     rw e (then-kick now k (andThen (andThen (andThen (fireFilterOf now k s) (fireSetupOf now k)) (fireMonitorOf now k)) (fireClockOf now k)))
-visit-settles now k s false e = rw e (off (s .core) e)
+visit-settles now k s false e = rw e (off s e)
 
 -- ## `read`
 
@@ -149,15 +147,15 @@ TDRE-kept x = has-kept 0xdf TDRE x refl
 NACKF-kept : (x : ℕ) → has (bitAnd x 0xdf) NACKF ≡ has x NACKF
 NACKF-kept x = has-kept 0xdf NACKF x refl
 
-taken-settled : (now : Time) (s : Core) → settled s ≡ true → settled (takenOf now s) ≡ true
+taken-settled : (now : Time) (s : Iic) → settled s ≡ true → settled (takenOf now s) ≡ true
 unfolding takenOf settled
 taken-settled now s h = rw (TDRE-kept (s .registers .status), NACKF-kept (s .registers .status)) h
 
-receive-settles : (now : Time) (k : Clocks) (s : Iic) (b : Bool) → transmits (s .core) ≡ b → Settled s → Settles (receiveOn now k s)
+receive-settles : (now : Time) (k : Clocks) (s : Iic) (b : Bool) → transmits s ≡ b → Settled s → Settles (receiveOn now k s)
 receive-settles now k s true e h = rw e h
-receive-settles now k s false e h = rw e (then-kick now k (resumedOf now k (onCore continuedOf s)))
+receive-settles now k s false e h = rw e (then-kick now k (resumedOf now k (continuedOf s)))
 
-seen-settled : (s : Core) → settled s ≡ true → settled (setSeen (s .registers .status) s) ≡ true
+seen-settled : (s : Iic) → settled s ≡ true → settled (setSeen (s .registers .status) s) ≡ true
 unfolding settled
 seen-settled s h = h
 
@@ -167,49 +165,49 @@ read-settles ICCR1 now k s h = h
 read-settles ICCR2 now k s h = h
 read-settles ICMR now k s h = h
 read-settles ICIER now k s h = h
-read-settles ICSR now k s h = seen-settled (s .core) h
+read-settles ICSR now k s h = seen-settled s h
 read-settles SAR now k s h = h
 read-settles ICDRT now k s h = h
-read-settles ICDRR now k s h = receive-settles now k (onCore (takenOf now) s) (transmits (takenOf now (s .core))) refl (taken-settled now (s .core) h)
+read-settles ICDRR now k s h = receive-settles now k (takenOf now s) (transmits (takenOf now s)) refl (taken-settled now s h)
 
 -- ## `write`
 
 -- ICCR1
-control-settles : (now : Time) (k : Clocks) (s : Iic) (b : Bool) → enabled (s .core) ≡ b → Settles (controlTaken now k s)
-unfolding stopShifterOf stopCoreOf
-control-settles now k s true e = rw e (then-kick now k (andThen (scheduleFilterOf now k s) (λ u. fine (onCore stopReceiveOf u))))
+control-settles : (now : Time) (k : Clocks) (s : Iic) (b : Bool) → enabled s ≡ b → Settles (controlTaken now k s)
+unfolding stopShifterOf
+control-settles now k s true e = rw e (then-kick now k (andThen (scheduleFilterOf now k s) (λ u. fine (stopReceiveOf u))))
 control-settles now k s false e = rw e (disabled _ e)
 
 -- ICCR2
-enter-settled : (s : Core) → settled (enterResetOf s) ≡ true
-unfolding enterResetOf stopCoreOf
+enter-settled : (s : Iic) → settled (enterResetOf s) ≡ true
+unfolding enterResetOf stopShifterOf
 enter-settled s = in-reset _ refl
 
-pull-settled : (value : ℕ) (s : Core) (b : Bool) → has value SDAOP ≡ b → settled s ≡ true → settled (pullSdaOf value s) ≡ true
+pull-settled : (value : ℕ) (s : Iic) (b : Bool) → has value SDAOP ≡ b → settled s ≡ true → settled (pullSdaOf value s) ≡ true
 unfolding pullSdaOf settled
 pull-settled value s true e h = rw e h
 pull-settled value s false e h = rw e h
 
-command-settles : (value : ℕ) (now : Time) (k : Clocks) (s : Iic) (b : Bool) → takesCommand value (s .core) ≡ b → Settled s
+command-settles : (value : ℕ) (now : Time) (k : Clocks) (s : Iic) (b : Bool) → takesCommand value s ≡ b → Settled s
     → Settles (commandFrom value now k s)
 command-settles value now k s true e h = rw e (kick-settles now k _)
 command-settles value now k s false e h = rw e h
 
-unless-lifted : (b : Bool) (s : Iic) (o : Stepped) → s .core .flags .reset ≡ b → lifts s (cond b (fine (onCore (setReset false) s)) o .state) ≡ false → Settles o
-    → Settles (cond b (fine (onCore (setReset false) s)) o)
+unless-lifted : (b : Bool) (s : Iic) (o : Stepped) → s .flags .reset ≡ b → lifts s (cond b (fine (setReset false s)) o .state) ≡ false → Settles o
+    → Settles (cond b (fine (setReset false s)) o)
 unless-lifted true s o q n h = absurd (true≢false (rw q at n))
 unless-lifted false s o q n h = h
 
 reset-settles : (value : ℕ) (now : Time) (k : Clocks) (s : Iic) (a : Bool) → has value IICRST ≡ a
     → lifts s (writeCommandOf value now k s .state) ≡ false → Settled s → Settles (writeCommandOf value now k s)
 unfolding writeCommandOf outOfResetOf
-reset-settles value now k s true p n h = rw p (enter-settled (s .core))
+reset-settles value now k s true p n h = rw p (enter-settled s)
 reset-settles value now k s false p n h =
-    rw p (unless-lifted (s .core .flags .reset) s (outOfResetOf value now k s) refl (rw p at n)
-    (command-settles value now k (onCore (pullSdaOf value) s) _ refl (pull-settled value (s .core) (has value SDAOP) refl h)))
+    rw p (unless-lifted (s .flags .reset) s (outOfResetOf value now k s) refl (rw p at n)
+    (command-settles value now k (pullSdaOf value s) _ refl (pull-settled value s (has value SDAOP) refl h)))
 
 -- ICMR
-recount-settled : (n : ℕ) (fr : Framing) (s : Core) → settled (setFrame fr s) ≡ true → settled (setFrame (recountIn fr n) s) ≡ true
+recount-settled : (n : ℕ) (fr : Framing) (s : Iic) → settled (setFrame fr s) ≡ true → settled (setFrame (recountIn fr n) s) ≡ true
 unfolding settled
 recount-settled n NoFrame s h = h
 recount-settled n (InFrame f) s h = go (isData (f .phase) && not (f .address)) refl
@@ -218,25 +216,25 @@ recount-settled n (InFrame f) s h = go (isData (f .phase) && not (f .address)) r
     go true e = rw e h
     go false e = rw e h
 
-mode-settled : (value : ℕ) (s : Core) (b : Bool) → has value BCWP ≡ b → settled s ≡ true → settled (writeModeOf value s) ≡ true
+mode-settled : (value : ℕ) (s : Iic) (b : Bool) → has value BCWP ≡ b → settled s ≡ true → settled (writeModeOf value s) ≡ true
 unfolding writeModeOf settled
 mode-settled value s true e h = rw e h
 mode-settled value s false e h = rw e (recount-settled (bitAnd value BC) (s .frame) s h)
 
-enable-settled : (value : ℕ) (s : Core) → settled s ≡ true → settled (writeEnableOf value s) ≡ true
+enable-settled : (value : ℕ) (s : Iic) → settled s ≡ true → settled (writeEnableOf value s) ≡ true
 unfolding writeEnableOf settled
 enable-settled value s h = h
 
 write-settles : (r : Register) (value : ℕ) (now : Time) (k : Clocks) (s : Iic)
     → lifts s (writeAt r value now k s .state) ≡ false → Settled s → Settles (writeAt r value now k s)
 unfolding writeAt writeControlOf writeDataOf
-write-settles ICCR1 value now k s n h = control-settles now k (onCore (takeControlOf value) s) (enabled (takeControlOf value (s .core))) refl
+write-settles ICCR1 value now k s n h = control-settles now k (takeControlOf value s) (enabled (takeControlOf value s)) refl
 write-settles ICCR2 value now k s n h = reset-settles value now k s (has value IICRST) refl n h
-write-settles ICMR value now k s n h = mode-settled value (s .core) (has value BCWP) refl h
-write-settles ICIER value now k s n h = enable-settled value (s .core) h
-write-settles ICSR value now k s n h = kick-settles now k (onCore (writeStatusOf value) s)
-write-settles SAR value now k s n h = kick-settles now k (onCore (writeAddressOf value) s)
-write-settles ICDRT value now k s n h = then-kick now k (sendOnOf now k (onCore (giveDataOf value) s))
+write-settles ICMR value now k s n h = mode-settled value s (has value BCWP) refl h
+write-settles ICIER value now k s n h = enable-settled value s h
+write-settles ICSR value now k s n h = kick-settles now k (writeStatusOf value s)
+write-settles SAR value now k s n h = kick-settles now k (writeAddressOf value s)
+write-settles ICDRT value now k s n h = then-kick now k (sendOnOf now k (giveDataOf value s))
 write-settles ICDRR value now k s n h = h
 
 -- ## The refusals that stand first
@@ -289,7 +287,7 @@ good-after k (read a now) h g ok = λ e.
 good-after k (write a value now) h g ok = write-good (registerAt a) value now k (h .state) (h .lifted) ok g
 good-after k (inputPins scl sda now) h g ok = λ e.
     guarded-settled (guardOf (h .state) k) (h .state) (takePinsOf (levels scl sda) now k (h .state))
-    (pins-settles (levels scl sda) now k (h .state) _ refl (g e)) (sym (truth-refused (guarded (guardOf (h .state) k) (h .state) (takePinsOf (levels scl sda) now k (h .state)) .ended) (observes (h .state .core) (levels scl sda))) ∙ ok)
+    (pins-settles (levels scl sda) now k (h .state) _ refl (g e)) (sym (truth-refused (guarded (guardOf (h .state) k) (h .state) (takePinsOf (levels scl sda) now k (h .state)) .ended) (observes (h .state) (levels scl sda))) ∙ ok)
 good-after k (Call.setGate gate now) h g ok = λ e.
     guarded-settled (guardOf (h .state) k) (h .state) (turnGateOf gate now k (h .state)) (gate-settles gate now k (h .state) _ refl (g e)) ok
 good-after k deadline h g ok = g

@@ -5,84 +5,81 @@ use Rattle.bus.specs.Bits.{has}
 use Rattle.time.specs.declared.Time.{Time}
 use Rattle.clocks.specs.declared.Clocks.{Clocks}
 use Rattle.iic.specs.declared.Iic.{Iic}
-use Rattle.steps.specs.declared.Core.{Core}
 use Rattle.iic.specs.declared.Ended.{Ended}
 use Rattle.iic.specs.declared.Ended.the-variants.{Finished, Refused}
 use Rattle.iic.specs.declared.Stepped.{Stepped}
 use Rattle.frames.specs.declared.Frame.{Frame}
 use Rattle.frames.specs.declared.Framing.{Framing}
 use Rattle.frames.specs.declared.Framing.the-variants.{NoFrame, InFrame}
-use Rattle.steps.specs.declared.Command.{Command}
-use Rattle.steps.specs.declared.Command.the-variants.{NoCommand, Commanded}
-use Rattle.steps.specs.declared.Hold.{Hold}
-use Rattle.steps.specs.declared.Hold.the-variants.{Transmit}
+use Rattle.iic.specs.declared.Command.{Command}
+use Rattle.iic.specs.declared.Command.the-variants.{NoCommand, Commanded}
+use Rattle.iic.specs.declared.Hold.{Hold}
+use Rattle.iic.specs.declared.Hold.the-variants.{Transmit}
 use Rattle.waits.specs.declared.HalfWait.{HalfWait}
 use Rattle.waits.specs.declared.NewHalf.{NewHalf}
 use Rattle.waits.specs.declared.NewHalf.the-variants as half
 use Rattle.waits.specs.declared.MaybeHalf.the-variants.{Half}
 use Rattle.waits.specs.declared.MaybeHalf.{MaybeHalf}
-use Rattle.steps.specs.Bits.{TDRE}
+use Rattle.iic.specs.Bits.{TDRE}
 use Rattle.iic.specs.Answers.{fine, goOn, andThen}
 use Rattle.waits.specs.Half.{halfAfter}
-use Rattle.steps.specs.Ready.{ready, commandReady, frameDue, nextFrameOf, clockDue, lowHalfOf, levelAt}
-use Rattle.steps.specs.Conditions.{firstCondition, begunOf}
+use Rattle.iic.specs.Ready.{ready, commandReady, frameDue, nextFrameOf, clockDue, lowHalfOf, levelAt}
+use Rattle.iic.specs.Conditions.{firstCondition, begunOf}
 use Rattle.iic.specs.Kick.{commandIn, beginConditionOf, launchOf, launchIn, clockFrameOf, kickOf}
-use Rattle.steps.specs.Setters.{setFrame, setClockWait}
+use Rattle.iic.specs.Setters.{setFrame, setClockWait}
 use Rattle.frames.specs.Parts.{starved, isDone}
-use Rattle.steps.specs.Shift.{canLoad, loadIn, loadTransmitOf, beginFrameOf, setHoldOf}
-use Rattle.steps.specs.State.{awake, master, synchronous, framed, commanded, conditioned, held, isCondition}
+use Rattle.iic.specs.Shift.{canLoad, loadIn, loadTransmitOf, beginFrameOf, setHoldOf}
+use Rattle.iic.specs.State.{awake, master, synchronous, framed, commanded, conditioned, held, isCondition}
 use Rattle.waits.specs.Rates.{periodOf}
-use Rattle.iic.specs.State.{setCore, onCore}
 use Rattle.iic.specs.Waiting.{halfFrom, startClockOf}
 use Rattle.hosts.specs.Invariant.{loadsIn, loads, restsIn, rests, atRest, settled}
 use Rattle.hosts.specs.Truths.{and-left, and-right, not-so}
 
 -- ## On a settled state
 
-next-same : (s : Core) → frameDue s ≡ false → nextFrameOf s ≡ s
+next-same : (s : Iic) → frameDue s ≡ false → nextFrameOf s ≡ s
 unfolding nextFrameOf
 next-same s h = rw h
 
-load-same : (fr : Framing) (s : Core) → loadsIn fr (has (s .registers .status) TDRE) ≡ false → loadIn fr s ≡ s
+load-same : (fr : Framing) (s : Iic) → loadsIn fr (has (s .registers .status) TDRE) ≡ false → loadIn fr s ≡ s
 load-same NoFrame s h = refl
 load-same (InFrame f) s h = rw h
 
-hold-same : (h : Hold) (s : Core) → synchronous s ≡ true → setHoldOf h s ≡ s
+hold-same : (h : Hold) (s : Iic) → synchronous s ≡ true → setHoldOf h s ≡ s
 unfolding setHoldOf
 hold-same h s e = rw e
 
 launch-rests : (now : Time) (k : Clocks) (f : Frame) (s : Iic) (d w : Bool)
-    → isDone (f .phase) ≡ d → starved f ≡ w → (d || w && synchronous (s .core)) ≡ true → launchOf f now k s ≡ fine s
+    → isDone (f .phase) ≡ d → starved f ≡ w → (d || w && synchronous s) ≡ true → launchOf f now k s ≡ fine s
 unfolding launchOf
 launch-rests now k f s true w p q h = rw p
-launch-rests now k f s false true p q h = rw (p, q, hold-same Transmit (s .core) h)
+launch-rests now k f s false true p q h = rw (p, q, hold-same Transmit s h)
 launch-rests now k f s false false p q h = absurd (false≢true h)
 
-clock-same : (now : Time) (k : Clocks) (fr : Framing) (s : Iic) (b : Bool) → (not b || restsIn fr (synchronous (s .core))) ≡ true
+clock-same : (now : Time) (k : Clocks) (fr : Framing) (s : Iic) (b : Bool) → (not b || restsIn fr (synchronous s)) ≡ true
     → cond b (launchIn fr now k s) (fine s) ≡ fine s
 clock-same now k fr s false h = refl
 clock-same now k NoFrame s true h = refl
 clock-same now k (InFrame f) s true h = launch-rests now k f s (isDone (f .phase)) (starved f) refl refl h
 
-rest-same : (now : Time) (k : Clocks) (s : Iic) → atRest (s .core) ≡ true → clockFrameOf now k (setCore (loadTransmitOf (nextFrameOf (s .core))) s) ≡ fine s
+rest-same : (now : Time) (k : Clocks) (s : Iic) → atRest s ≡ true → clockFrameOf now k (loadTransmitOf (nextFrameOf s)) ≡ fine s
 unfolding clockFrameOf loadTransmitOf
 rest-same now k s h =
-    let c : Core = s .core in
-    rw (next-same c (not-so _ (and-left _ _ h)))
-    (rw (load-same (c .frame) c (not-so _ (and-left _ _ (and-right (not (frameDue c)) _ h))))
-    (clock-same now k (c .frame) s (clockDue c) (and-right (not (loads c)) _ (and-right (not (frameDue c)) _ h))))
+    rw (next-same s (not-so _ (and-left _ _ h)))
+    (rw (load-same (s .frame) s (not-so _ (and-left _ _ (and-right (not (frameDue s)) _ h))))
+    (clock-same now k (s .frame) s (clockDue s) (and-right (not (loads s)) _ (and-right (not (frameDue s)) _ h))))
 
-kick-cases : (now : Time) (k : Clocks) (s : Iic) (a b : Bool) → ready (s .core) ≡ a → commandReady (s .core) ≡ b
-    → (not a || (not b && atRest (s .core))) ≡ true → kickOf now k s ≡ fine s
+kick-cases : (now : Time) (k : Clocks) (s : Iic) (a b : Bool) → ready s ≡ a → commandReady s ≡ b
+    → (not a || (not b && atRest s)) ≡ true → kickOf now k s ≡ fine s
 unfolding kickOf
 kick-cases now k s false b p q h = rw p
 kick-cases now k s true true p q h = absurd (false≢true h)
 kick-cases now k s true false p q h = rw (p, q, rest-same now k s h)
 
 -- a kick on a settled state does nothing, at any time, and isn't refused
-pub settled-kick : (now : Time) (k : Clocks) (s : Iic) → settled (s .core) ≡ true → kickOf now k s ≡ fine s
+pub settled-kick : (now : Time) (k : Clocks) (s : Iic) → settled s ≡ true → kickOf now k s ≡ fine s
 unfolding settled
-settled-kick now k s h = kick-cases now k s (ready (s .core)) (commandReady (s .core)) refl refl h
+settled-kick now k s h = kick-cases now k s (ready s) (commandReady s) refl refl h
 
 -- ## What a step leaves
 
@@ -95,7 +92,7 @@ abbrev pub Leaves : (Iic → Type 0) → Stepped → Type 0
 Leaves P o = leavesAt P (o .ended) (o .state)
 
 abbrev pub Settled : Iic → Type 0
-Settled s = settled (s .core) ≡ true
+Settled s = settled s ≡ true
 
 abbrev pub Settles : Stepped → Type 0
 Settles o = Leaves Settled o
@@ -132,44 +129,44 @@ half-leaves P set (half.Refused n) s h = tt
 
 -- ## Every kick that isn't refused leaves a settled state
 
-pub unready : (s : Core) → ready s ≡ false → settled s ≡ true
+pub unready : (s : Iic) → ready s ≡ false → settled s ≡ true
 unfolding settled
 unready s e = rw e
 
-in-condition : (s : Core) → conditioned s ≡ true → settled s ≡ true
+in-condition : (s : Iic) → conditioned s ≡ true → settled s ≡ true
 in-condition s e = unready s (rw e (and-false (awake s && not (s .flags .reset))))
 
 begun : (b : Bool) → isCondition (firstCondition b) ≡ true
 begun true = refl
 begun false = refl
 
-command-settles : (now : Time) (k : Clocks) (c : Command) (s : Iic) → commandReady (s .core) ≡ true → s .core .command ≡ c → Settles (commandIn c now k s)
+command-settles : (now : Time) (k : Clocks) (c : Command) (s : Iic) → commandReady s ≡ true → s .command ≡ c → Settles (commandIn c now k s)
 unfolding startClockOf begunOf
 command-settles now k NoCommand s h e = absurd (false≢true (rw e at h))
 command-settles now k (Commanded start) s h e =
-    half-leaves Settled (λ x. onCore (setClockWait x)) (halfAfter now (periodOf (s .core .registers .control)) k) (onCore (begunOf start) s) (λ v. in-condition _ (begun start))
+    half-leaves Settled setClockWait (halfAfter now (periodOf (s .registers .control)) k) (begunOf start s) (λ v. in-condition _ (begun start))
 
 -- what holds of a state that a kick has given its frame
-record Framed (s : Core) : Type 0 where
+record Framed (s : Iic) : Type 0 where
   no-command : commandReady s ≡ false
   no-frame : frameDue s ≡ false
 
-load-framed : (fr : Framing) (s : Core) (b : Bool) → loadsIn fr (has (s .registers .status) TDRE) ≡ b → Framed (setFrame fr s) → Framed (loadIn fr (setFrame fr s))
+load-framed : (fr : Framing) (s : Iic) (b : Bool) → loadsIn fr (has (s .registers .status) TDRE) ≡ b → Framed (setFrame fr s) → Framed (loadIn fr (setFrame fr s))
 load-framed NoFrame s b e r = r
 load-framed (InFrame f) s true e r = rw e record { no-command = r .no-command; no-frame = refl }
 load-framed (InFrame f) s false e r = rw e r
 
-load-loaded : (fr : Framing) (s : Core) (b : Bool) → loadsIn fr (has (s .registers .status) TDRE) ≡ b
+load-loaded : (fr : Framing) (s : Iic) (b : Bool) → loadsIn fr (has (s .registers .status) TDRE) ≡ b
     → loads (loadIn fr (setFrame fr s)) ≡ false
 load-loaded NoFrame s b e = refl
 load-loaded (InFrame f) s true e = rw e (rw (and-false (f .transmit)) refl)
 load-loaded (InFrame f) s false e = rw e e
 
-transmit-framed : (s : Core) → Framed s → Framed (loadTransmitOf s)
+transmit-framed : (s : Iic) → Framed s → Framed (loadTransmitOf s)
 unfolding loadTransmitOf
 transmit-framed s r = load-framed (s .frame) s (loads s) refl r
 
-transmit-loaded : (s : Core) → loads (loadTransmitOf s) ≡ false
+transmit-loaded : (s : Iic) → loads (loadTransmitOf s) ≡ false
 unfolding loadTransmitOf
 transmit-loaded s = load-loaded (s .frame) s (loads s) refl
 
@@ -179,13 +176,13 @@ fewer false x y h = refl
 fewer true true y h = absurd (true≢false h)
 fewer true false y h = h
 
-next-framed : (s : Core) (b : Bool) → frameDue s ≡ b → commandReady s ≡ false → Framed (nextFrameOf s)
+next-framed : (s : Iic) (b : Bool) → frameDue s ≡ b → commandReady s ≡ false → Framed (nextFrameOf s)
 unfolding nextFrameOf beginFrameOf
 next-framed s true e h =
     rw e (transmit-framed _ record { no-command = fewer (commanded s) (not (framed s)) (not (s .lines .filtered .scl)) h; no-frame = refl })
 next-framed s false e h = rw e record { no-command = h; no-frame = e }
 
-framed-settled : (s : Core) → Framed s → loads s ≡ false → (not (clockDue s) || rests s) ≡ true → settled s ≡ true
+framed-settled : (s : Iic) → Framed s → loads s ≡ false → (not (clockDue s) || rests s) ≡ true → settled s ≡ true
 unfolding settled
 framed-settled s r l h = rw (r .no-command, r .no-frame, l, h) (or-true (not (ready s)))
 
@@ -199,7 +196,7 @@ while-held true true y = refl
 while-held true false y = refl
 while-held false w y = refl
 
-hold-settles : (s : Core) (f : Frame) (b : Bool) → synchronous s ≡ b → Framed (setFrame (InFrame f) s) → canLoad s f ≡ false
+hold-settles : (s : Iic) (f : Frame) (b : Bool) → synchronous s ≡ b → Framed (setFrame (InFrame f) s) → canLoad s f ≡ false
     → starved f ≡ true → settled (setHoldOf Transmit (setFrame (InFrame f) s)) ≡ true
 unfolding setHoldOf
 hold-settles s f true e r l w =
@@ -208,39 +205,38 @@ hold-settles s f false e r l w =
     rw e (framed-settled _ record { no-command = r .no-command; no-frame = refl } l (rw (while-held (master s) true (not (s .flags .«synchronized_hold»)))))
 
 launch-settles : (now : Time) (k : Clocks) (f : Frame) (s : Iic) (d w : Bool)
-    → Framed (setFrame (InFrame f) (s .core)) → canLoad (s .core) f ≡ false → isDone (f .phase) ≡ d → starved f ≡ w
-    → Settles (launchOf f now k (onCore (setFrame (InFrame f)) s))
+    → Framed (setFrame (InFrame f) s) → canLoad s f ≡ false → isDone (f .phase) ≡ d → starved f ≡ w
+    → Settles (launchOf f now k (setFrame (InFrame f) s))
 unfolding launchOf startClockOf lowHalfOf
-launch-settles now k f s true w r l p q = rw p (framed-settled _ r l (rw p (or-true (not (clockDue (s .core))))))
-launch-settles now k f s false true r l p q = rw (p, q) (hold-settles (s .core) f (synchronous (s .core)) refl r l q)
+launch-settles now k f s true w r l p q = rw p (framed-settled _ r l (rw p (or-true (not (clockDue s)))))
+launch-settles now k f s false true r l p q = rw (p, q) (hold-settles s f (synchronous s) refl r l q)
 launch-settles now k f s false false r l p q =
-    let c : Core = s .core in
-    rw (p, q) (half-leaves Settled (λ x. onCore (setClockWait x)) (halfAfter now (periodOf (c .registers .control)) k) (setCore (lowHalfOf (levelAt (f .phase) f (setFrame (InFrame f) c)) (setFrame (InFrame f) c)) s) (λ v.
+    rw (p, q) (half-leaves Settled setClockWait (halfAfter now (periodOf (s .registers .control)) k) (lowHalfOf (levelAt (f .phase) f (setFrame (InFrame f) s)) (setFrame (InFrame f) s)) (λ v.
     framed-settled _ record { no-command = r .no-command; no-frame = refl } l
-    (rw (beside-wait (master c) (not (held c)) (not (c .flags .«synchronized_hold»))))))
+    (rw (beside-wait (master s) (not (held s)) (not (s .flags .«synchronized_hold»))))))
 
 clock-settles : (now : Time) (k : Clocks) (fr : Framing) (s : Iic) (b : Bool)
-    → Framed (setFrame fr (s .core)) → loadsIn fr (has (s .core .registers .status) TDRE) ≡ false → clockDue (s .core) ≡ b
-    → Settles (cond b (launchIn fr now k (onCore (setFrame fr) s)) (fine (onCore (setFrame fr) s)))
-clock-settles now k fr s false r l e = framed-settled (setFrame fr (s .core)) r l (rw e refl)
-clock-settles now k NoFrame s true r l e = framed-settled (setFrame NoFrame (s .core)) r refl (or-true (not (clockDue (s .core))))
+    → Framed (setFrame fr s) → loadsIn fr (has (s .registers .status) TDRE) ≡ false → clockDue s ≡ b
+    → Settles (cond b (launchIn fr now k (setFrame fr s)) (fine (setFrame fr s)))
+clock-settles now k fr s false r l e = framed-settled (setFrame fr s) r l (rw e refl)
+clock-settles now k NoFrame s true r l e = framed-settled (setFrame NoFrame s) r refl (or-true (not (clockDue s)))
 clock-settles now k (InFrame f) s true r l e = launch-settles now k f s (isDone (f .phase)) (starved f) r l refl refl
 
-frame-settles : (now : Time) (k : Clocks) (s : Iic) → Framed (s .core) → loads (s .core) ≡ false → Settles (clockFrameOf now k s)
+frame-settles : (now : Time) (k : Clocks) (s : Iic) → Framed s → loads s ≡ false → Settles (clockFrameOf now k s)
 unfolding clockFrameOf
-frame-settles now k s r l = clock-settles now k (s .core .frame) s (clockDue (s .core)) r l refl
+frame-settles now k s r l = clock-settles now k (s .frame) s (clockDue s) r l refl
 
-kick-settles-at : (now : Time) (k : Clocks) (s : Iic) (a b : Bool) → ready (s .core) ≡ a → commandReady (s .core) ≡ b → Settles (kickOf now k s)
+kick-settles-at : (now : Time) (k : Clocks) (s : Iic) (a b : Bool) → ready s ≡ a → commandReady s ≡ b → Settles (kickOf now k s)
 unfolding kickOf beginConditionOf
-kick-settles-at now k s false b p q = rw p (unready (s .core) p)
-kick-settles-at now k s true true p q = rw (p, q) (command-settles now k (s .core .command) s q refl)
+kick-settles-at now k s false b p q = rw p (unready s p)
+kick-settles-at now k s true true p q = rw (p, q) (command-settles now k (s .command) s q refl)
 kick-settles-at now k s true false p q =
-    let n : Core = nextFrameOf (s .core) in
-    rw (p, q) (frame-settles now k (setCore (loadTransmitOf n) s)
-    (transmit-framed n (next-framed (s .core) (frameDue (s .core)) refl q)) (transmit-loaded n))
+    let n : Iic = nextFrameOf s in
+    rw (p, q) (frame-settles now k (loadTransmitOf n)
+    (transmit-framed n (next-framed s (frameDue s) refl q)) (transmit-loaded n))
 
 pub kick-settles : (now : Time) (k : Clocks) (s : Iic) → Settles (kickOf now k s)
-kick-settles now k s = kick-settles-at now k s (ready (s .core)) (commandReady (s .core)) refl refl
+kick-settles now k s = kick-settles-at now k s (ready s) (commandReady s) refl refl
 
 -- a call that ends in a kick
 pub then-kick : (now : Time) (k : Clocks) (o : Stepped) → Settles (andThen o (kickOf now k))

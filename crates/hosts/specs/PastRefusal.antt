@@ -21,10 +21,9 @@ use Rattle.iic.specs.Clocking as Clocking
 use Rattle.iic.specs.Kick as Kick
 use Rattle.iic.specs.State as State
 use Rattle.iic.specs.Waiting as Waits
-use Rattle.steps.specs.Access as Registers
-use Rattle.steps.specs.Ready as Ready
-use Rattle.steps.specs.Shift as Shift
-use Rattle.steps.specs.State as Core
+use Rattle.iic.specs.Registers as Registers
+use Rattle.iic.specs.Ready as Ready
+use Rattle.iic.specs.Shift as Shift
 use Rattle.waits.specs.Ends as Ends
 use Rattle.waits.specs.Half as Half
 use Rattle.waits.specs.Rates as Rates
@@ -34,10 +33,9 @@ use Rattle.iic.specs.declared.Iic.{Iic}
 use Rattle.frames.specs.declared.Framing.the-variants.{InFrame}
 use Rattle.iic.specs.Answers.{andThen}
 use Rattle.iic.specs.Kick.{kickOf}
-use Rattle.steps.specs.Setters.{setGate as gated, setControl, setAddress, setFrame, setRaw}
+use Rattle.iic.specs.Setters.{setGate as gated, setControl, setAddress, setFrame, setRaw}
 use Rattle.bus.specs.Bus.{levels}
-use Rattle.steps.specs.State.{defaultCore}
-use Rattle.iic.specs.State.{setCore, defaultIic}
+use Rattle.iic.specs.State.{defaultIic}
 use Rattle.iic.specs.Waiting.{filterFrom}
 use Rattle.hosts.specs.Calls as Hosts
 use Rattle.hosts.specs.Calls.{Call, read, write, inputPins, setGate, advance, Made, Answer, refusal, nothing, byte, bit, outcome, outcomeOf, start, afterAll}
@@ -63,7 +61,7 @@ withoutVisit = made (starving ++ (setGate true (at 0) ∷ read 4 (at 0) ∷ []))
 
 -- the state that the refused call leaves
 abbrev starved : Iic
-starved = setCore (setFrame (InFrame (begun true)) (setControl 0x90 (setRaw (levels false true) (setAddress 0x01 (gated true defaultCore))))) defaultIic
+starved = setFrame (InFrame (begun true)) (setControl 0x90 (setRaw (levels false true) (setAddress 0x01 (gated true defaultIic))))
 
 abbrev answers : List Left → List Answer
 answers l = map (λ (p : Left). p .answer) l
@@ -77,7 +75,7 @@ worked :
     -- the eighth is refused 7 in both, and the ninth, a read of ICSR, answers 80 and 00
     × (answers (leftOf late withVisit) ≡ before-it ++ (refusal 7 ∷ byte 0x80 ∷ []))
     × (answers (leftOf late withoutVisit) ≡ before-it ++ (refusal 7 ∷ byte 0x00 ∷ []))
-unfolding Time.midway Time.momentOf Time.sameTime Clock.afterOf Clock.edgeOf Clock.zeroIn Clocks.availableOf Clocks.fedBy Clocks.hasZero Clocks.routedEdge Clocks.sourceOf Clocks.tapEdge Domain.domainHalfEdge Domain.oddEdge Halves.halfEdge Counts.fits Tap.routeOf Tap.routeS Tap.routeW Tap.stageBelow Tap.stageOf Wait.dated Wait.edgeDeadline Wait.waitDeadline Registers.continuedOf Registers.controlSet Registers.enterResetOf Registers.giveDataOf Registers.peekAt Registers.pullSdaOf Access.readAt Access.readDataOf Parts.redirectFrame Registers.redirected Registers.registerAt Access.resumedOf Access.sendOnOf Registers.stopReceiveOf Registers.takeControlOf Registers.takenOf Registers.writeAddressOf Access.writeAt Access.outOfResetOf Access.writeControlOf Access.writeDataOf Registers.writeEnableOf Registers.writeModeOf Access.writeCommandOf Registers.writeStatusOf Iic.advanceOf Iic.guardOf Iic.inputPinsOf Iic.keepStretchedOf Iic.peekOf Iic.readOf Iic.setGateOf Iic.takePinsOf Iic.turnGateOf Iic.turnWaitsOf Iic.visitOf Iic.writeOf Clocking.fireClockOf Clocking.fireFilterOf Clocking.fireMonitorOf Clocking.fireSetupOf Half.halfDeadline Kick.clockFrameOf Kick.kickOf Kick.launchOf Ready.lowHalfOf Ready.nextFrameOf Shift.beginFrameOf Shift.loadTransmitOf Shift.setHoldOf State.defaultIic Core.defaultCore State.stopShifterOf Core.stopCoreOf Ends.dueOf Ends.halfEnd Rates.periodOf Rates.rate Waits.scheduleFilterOf Waits.startClockOf Waits.turnClockOf Waits.turnFilterOf Waits.turnMonitorOf Waits.turnSetupOf Ends.waitEnd Hosts.after Hosts.anyDue Hosts.idle Hosts.outcomeOf Hosts.start Demand3.left
+unfolding Time.midway Time.momentOf Time.sameTime Clock.afterOf Clock.edgeOf Clock.zeroIn Clocks.availableOf Clocks.fedBy Clocks.hasZero Clocks.routedEdge Clocks.sourceOf Clocks.tapEdge Domain.domainHalfEdge Domain.oddEdge Halves.halfEdge Counts.fits Tap.routeOf Tap.routeS Tap.routeW Tap.stageBelow Tap.stageOf Wait.dated Wait.edgeDeadline Wait.waitDeadline Registers.continuedOf Registers.controlSet Registers.enterResetOf Registers.giveDataOf Registers.peekAt Registers.pullSdaOf Access.readAt Access.readDataOf Parts.redirectFrame Registers.redirected Registers.registerAt Access.resumedOf Access.sendOnOf Registers.stopReceiveOf Registers.takeControlOf Registers.takenOf Registers.writeAddressOf Access.writeAt Access.outOfResetOf Access.writeControlOf Access.writeDataOf Registers.writeEnableOf Registers.writeModeOf Access.writeCommandOf Registers.writeStatusOf Iic.advanceOf Iic.guardOf Iic.inputPinsOf Iic.keepStretchedOf Iic.peekOf Iic.readOf Iic.setGateOf Iic.takePinsOf Iic.turnGateOf Iic.turnWaitsOf Iic.visitOf Iic.writeOf Clocking.fireClockOf Clocking.fireFilterOf Clocking.fireMonitorOf Clocking.fireSetupOf Half.halfDeadline Kick.clockFrameOf Kick.kickOf Kick.launchOf Ready.lowHalfOf Ready.nextFrameOf Shift.beginFrameOf Shift.loadTransmitOf Shift.setHoldOf State.defaultIic State.stopShifterOf Ends.dueOf Ends.halfEnd Rates.periodOf Rates.rate Waits.scheduleFilterOf Waits.startClockOf Waits.turnClockOf Waits.turnFilterOf Waits.turnMonitorOf Waits.turnSetupOf Ends.waitEnd Hosts.after Hosts.anyDue Hosts.idle Hosts.outcomeOf Hosts.start Demand3.left
 worked =
     let refused : outcomeOf late (setGate true (at 0)) (afterAll late start starving .state) ≡ outcome (refusal 7) starved =
     ap (λ (w : NewWait). ofStep (andThen (filterFrom w starved) (kickOf (at 0) late))) late-wait in

@@ -20,10 +20,9 @@ use Rattle.iic.specs.Clocking as Clocking
 use Rattle.iic.specs.Kick as Kick
 use Rattle.iic.specs.State as State
 use Rattle.iic.specs.Waiting as Waits
-use Rattle.steps.specs.Access as Registers
-use Rattle.steps.specs.Ready as Ready
-use Rattle.steps.specs.Shift as Shift
-use Rattle.steps.specs.State as Core
+use Rattle.iic.specs.Registers as Registers
+use Rattle.iic.specs.Ready as Ready
+use Rattle.iic.specs.Shift as Shift
 use Rattle.waits.specs.Ends as Ends
 use Rattle.hosts.specs.Calls as Hosts
 use Rattle.hosts.specs.Calls.{read, write, Made, byValue, lentRead, lentWrite, callOf, Host, after, idle}
@@ -53,5 +52,5 @@ names-count k (m ∷ l) h =
 -- `visited` has every kind of idle call before and after those of `plain`, and lends its peripheral for the last: at the sixth call left, the
 -- last, both hosts have the same answer and the same state
 pub plain-and-visited : (p q : Left) → IsKth 6 (leftOf still plain) p → IsKth 6 (leftOf still visited) q → (p .answer ≡ q .answer) × (p .state ≡ q .state)
-unfolding Time.earlier Time.nextTime Time.sameTime Clock.edgesBeforeOf Clock.zeroIn Clocks.availableOf Clocks.fedBy Clocks.hasZero Clocks.routedTicks Clocks.sourceOf Clocks.tapTicks Domain.domainTicks Counts.fits Tap.routeOf Tap.routeS Tap.routeW Tap.stageBelow Tap.stageOf Wait.edgeDeadline Wait.leftAt Wait.pausedBy Wait.startedAt Wait.startedBy Wait.startedFor Wait.waitAfter Wait.waitDeadline Wait.waitPause Registers.continuedOf Registers.controlSet Registers.enterResetOf Registers.giveDataOf Registers.peekAt Registers.pullSdaOf Access.readAt Access.readDataOf Parts.redirectFrame Registers.redirected Registers.registerAt Access.resumedOf Access.sendOnOf Registers.stopReceiveOf Registers.takeControlOf Registers.takenOf Registers.writeAddressOf Access.writeAt Access.outOfResetOf Access.writeControlOf Access.writeDataOf Registers.writeEnableOf Registers.writeModeOf Access.writeCommandOf Registers.writeStatusOf Iic.advanceOf Iic.guardOf Iic.inputPinsOf Iic.keepStretchedOf Iic.peekOf Iic.readOf Iic.setGateOf Iic.takePinsOf Iic.turnGateOf Iic.turnWaitsOf Iic.visitOf Iic.writeOf Clocking.fireClockOf Clocking.fireFilterOf Clocking.fireMonitorOf Clocking.fireSetupOf Kick.clockFrameOf Kick.kickOf Kick.launchOf Ready.nextFrameOf Shift.beginFrameOf Shift.loadTransmitOf Shift.setHoldOf State.defaultIic Core.defaultCore State.stopShifterOf Core.stopCoreOf Ends.dueOf Ends.halfEnd Waits.scheduleFilterOf Waits.turnClockOf Waits.turnFilterOf Waits.turnMonitorOf Waits.turnSetupOf Ends.waitEnd Hosts.after Hosts.anyDue Hosts.idle Hosts.outcomeOf Hosts.start Demand3.left Mirror.ordered
+unfolding Time.earlier Time.nextTime Time.sameTime Clock.edgesBeforeOf Clock.zeroIn Clocks.availableOf Clocks.fedBy Clocks.hasZero Clocks.routedTicks Clocks.sourceOf Clocks.tapTicks Domain.domainTicks Counts.fits Tap.routeOf Tap.routeS Tap.routeW Tap.stageBelow Tap.stageOf Wait.edgeDeadline Wait.leftAt Wait.pausedBy Wait.startedAt Wait.startedBy Wait.startedFor Wait.waitAfter Wait.waitDeadline Wait.waitPause Registers.continuedOf Registers.controlSet Registers.enterResetOf Registers.giveDataOf Registers.peekAt Registers.pullSdaOf Access.readAt Access.readDataOf Parts.redirectFrame Registers.redirected Registers.registerAt Access.resumedOf Access.sendOnOf Registers.stopReceiveOf Registers.takeControlOf Registers.takenOf Registers.writeAddressOf Access.writeAt Access.outOfResetOf Access.writeControlOf Access.writeDataOf Registers.writeEnableOf Registers.writeModeOf Access.writeCommandOf Registers.writeStatusOf Iic.advanceOf Iic.guardOf Iic.inputPinsOf Iic.keepStretchedOf Iic.peekOf Iic.readOf Iic.setGateOf Iic.takePinsOf Iic.turnGateOf Iic.turnWaitsOf Iic.visitOf Iic.writeOf Clocking.fireClockOf Clocking.fireFilterOf Clocking.fireMonitorOf Clocking.fireSetupOf Kick.clockFrameOf Kick.kickOf Kick.launchOf Ready.nextFrameOf Shift.beginFrameOf Shift.loadTransmitOf Shift.setHoldOf State.defaultIic State.stopShifterOf Ends.dueOf Ends.halfEnd Waits.scheduleFilterOf Waits.turnClockOf Waits.turnFilterOf Waits.turnMonitorOf Waits.turnSetupOf Ends.waitEnd Hosts.after Hosts.anyDue Hosts.idle Hosts.outcomeOf Hosts.start Demand3.left Mirror.ordered
 plain-and-visited p q a b = two-hosts-agree still plain visited 6 p q a b refl refl

@@ -4,17 +4,15 @@ use Rattle.clocks.specs.declared.Clocks.{Clocks}
 use Rattle.iic.specs.Access.{readAt, writeAt}
 use Rattle.iic.specs.Answers.{andThen, fine, goOn, guarded, refused}
 use Rattle.iic.specs.Kick.{kickOf}
-use Rattle.iic.specs.State.{onCore}
 use Rattle.iic.specs.Clocking.{firing}
-use Rattle.iic.specs.Inside.{dueAfter, unfired, wentOn}
+use Rattle.iic.specs.Inside.{dueAfter, unfired, wentOn, writePlain}
 use Rattle.iic.specs.declared.Ended.the-variants as ended
 use Rattle.iic.specs.declared.Ended.{Ended}
 use Rattle.iic.specs.declared.Iic.{Iic}
 use Rattle.iic.specs.declared.Stepped.{Stepped}
-use Rattle.steps.proofs.Register as register-type
-use Rattle.steps.specs.Inside.{writePlain}
-use Rattle.steps.specs.declared.Register.the-variants.{ICCR1, ICCR2, ICDRR, ICDRT, ICIER, ICMR, ICSR, SAR}
-use Rattle.steps.specs.declared.Register.{Register}
+use Rattle.iic.proofs.Register as register-type
+use Rattle.iic.specs.declared.Register.the-variants.{ICCR1, ICCR2, ICDRR, ICDRT, ICIER, ICMR, ICSR, SAR}
+use Rattle.iic.specs.declared.Register.{Register}
 use Rattle.time.specs.declared.Time.{Time}
 use Rattle.waits.proofs.Due as due-type
 use Rattle.waits.specs.declared.Due.the-variants as due
@@ -201,7 +199,7 @@ not-taken ICDRT h = λ now k s. refl
 not-taken ICDRR h = absurd (miss (0 ∷ 1 ∷ 2 ∷ 3 ∷ 5 ∷ 6 ∷ []) 7 tt h)
 
 pub kicking : (x : Register) → Registers (4 ∷ 5 ∷ []) x →
-    (v : ℕ) (now : Time) (k : Clocks) (s : Iic) → kickOf now k (onCore (writePlain x v) s) ≡ writeAt x v now k s
+    (v : ℕ) (now : Time) (k : Clocks) (s : Iic) → kickOf now k (writePlain x v s) ≡ writeAt x v now k s
 unfolding writeAt
 kicking ICCR1 h = absurd (miss (4 ∷ 5 ∷ []) 0 tt h)
 kicking ICCR2 h = absurd (miss (4 ∷ 5 ∷ []) 1 tt h)
@@ -213,7 +211,7 @@ kicking ICDRT h = absurd (miss (4 ∷ 5 ∷ []) 6 tt h)
 kicking ICDRR h = absurd (miss (4 ∷ 5 ∷ []) 7 tt h)
 
 pub silent : (x : Register) → Registers (2 ∷ 3 ∷ 7 ∷ []) x →
-    (v : ℕ) (now : Time) (k : Clocks) (s : Iic) → fine (onCore (writePlain x v) s) ≡ writeAt x v now k s
+    (v : ℕ) (now : Time) (k : Clocks) (s : Iic) → fine (writePlain x v s) ≡ writeAt x v now k s
 unfolding writeAt
 silent ICCR1 h = absurd (miss (2 ∷ 3 ∷ 7 ∷ []) 0 tt h)
 silent ICCR2 h = absurd (miss (2 ∷ 3 ∷ 7 ∷ []) 1 tt h)

@@ -3,14 +3,13 @@
 use Rattle.clocks.specs.declared.Clocks.{Clocks}
 use Rattle.iic.specs.Answers.{andThen, fine, refused}
 use Rattle.iic.specs.Edges.{filteredEdgesOf}
-use Rattle.iic.specs.State.{onCore, setFilterWait, setSetupWait}
+use Rattle.iic.specs.Setters.{setFilterWait, setSetupWait, setClockWait, setMonitorWait, setSynchronizedHold}
 use Rattle.iic.specs.Waiting.{scheduleFilterOf, startClockOf, startMonitorOf, turnClockOf}
 use Rattle.iic.specs.declared.Iic.{Iic}
 use Rattle.iic.specs.declared.Stepped.{Stepped}
-use Rattle.steps.specs.Conditions.{clockedOf, isStartHold}
-use Rattle.steps.specs.Filter.{filterPassOf}
-use Rattle.steps.specs.Setters.{setClockWait, setMonitorWait, setSynchronizedHold}
-use Rattle.steps.specs.State.{conditioned, driveScl, held, master}
+use Rattle.iic.specs.Conditions.{clockedOf, isStartHold}
+use Rattle.iic.specs.Filter.{filterPassOf}
+use Rattle.iic.specs.State.{conditioned, driveScl, held, master}
 use Rattle.time.specs.declared.Time.{Time}
 use Rattle.waits.specs.Ends.{dueOf, halfEnd, waitEnd}
 use Rattle.waits.specs.declared.Due.the-variants as due
@@ -23,20 +22,20 @@ use mathlib.Core.Bool.{_&&_, cond, false, not, true}
 
 -- a rising clock is looked at after the monitor's wait, a falling one is not (880)
 unfoldable pub monitorStepOf : Time → Clocks → Iic → Stepped
-monitorStepOf now k s = cond (s .core .lines .drive .scl) (startMonitorOf now k s) (fine (onCore (setMonitorWait NoHalf) s))
+monitorStepOf now k s = cond (s .lines .drive .scl) (startMonitorOf now k s) (fine (setMonitorWait NoHalf s))
 
 -- a master's SCL changes its level, unless it is held (877)
 unfoldable pub toggleOf : Time → Clocks → Iic → Stepped
 toggleOf now k s =
-    cond (master (s .core) && not (held (s .core)))
-    (andThen (startClockOf now k (onCore (driveScl (not (s .core .lines .drive .scl))) s)) (monitorStepOf now k))
+    cond (master s && not (held s))
+    (andThen (startClockOf now k (driveScl (not (s .lines .drive .scl)) s)) (monitorStepOf now k))
     (fine s)
 
 -- without a condition the clock goes on; with one it goes a stage on, and the start's hold is followed by half a clock (855, 864)
 unfoldable pub clockStepOf : Time → Clocks → Iic → Stepped
 clockStepOf now k s =
-    cond (not (conditioned (s .core))) (toggleOf now k s)
-    (cond (isStartHold (s .core .condition)) (startClockOf now k (onCore clockedOf s)) (fine (onCore clockedOf s)))
+    cond (not (conditioned s)) (toggleOf now k s)
+    (cond (isStartHold (s .condition)) (startClockOf now k (clockedOf s)) (fine (clockedOf s)))
 
 -- ## `advance`
 
@@ -49,25 +48,25 @@ firing (due.Refused n) s o = refused n s
 -- the filter's wait: the levels pass, with what they bring; then it starts anew where a level is still on its way (473)
 unfoldable pub filterFiresOf : Time → Clocks → Iic → Stepped
 filterFiresOf now k s =
-    andThen (filteredEdgesOf (s .core .lines .filtered) now k (setFilterWait NoWait (onCore filterPassOf s))) (scheduleFilterOf now k)
+    andThen (filteredEdgesOf (s .lines .filtered) now k (setFilterWait NoWait (filterPassOf s))) (scheduleFilterOf now k)
 
 unfoldable pub fireFilterOf : Time → Clocks → Iic → Stepped
 fireFilterOf now k s = firing (dueOf (waitEnd (s .«filter_wait») k) now) s (filterFiresOf now k s)
 
 -- the setup's wait: a slave releases SCL (490)
 unfoldable pub fireSetupOf : Time → Clocks → Iic → Stepped
-fireSetupOf now k s = firing (dueOf (waitEnd (s .«setup_wait») k) now) s (fine (setSetupWait NoWait (onCore (driveScl true) s)))
+fireSetupOf now k s = firing (dueOf (waitEnd (s .«setup_wait») k) now) s (fine (setSetupWait NoWait (driveScl true s)))
 
 -- SCL is still low though released: the clock's wait pauses (495)
 unfoldable pub stretchOf : Time → Clocks → Iic → Stepped
 stretchOf now k s =
-    cond (s .core .lines .filtered .scl) (fine s)
-    (andThen (turnClockOf false now k s) (λ u. fine (onCore (setSynchronizedHold true) u)))
+    cond (s .lines .filtered .scl) (fine s)
+    (andThen (turnClockOf false now k s) (λ u. fine (setSynchronizedHold true u)))
 
 -- the monitor's wait (494)
 unfoldable pub fireMonitorOf : Time → Clocks → Iic → Stepped
-fireMonitorOf now k s = firing (dueOf (halfEnd (s .core .«monitor_wait») k) now) s (stretchOf now k (onCore (setMonitorWait NoHalf) s))
+fireMonitorOf now k s = firing (dueOf (halfEnd (s .«monitor_wait») k) now) s (stretchOf now k (setMonitorWait NoHalf s))
 
 -- the clock's wait (503)
 unfoldable pub fireClockOf : Time → Clocks → Iic → Stepped
-fireClockOf now k s = firing (dueOf (halfEnd (s .core .«clock_wait») k) now) s (clockStepOf now k (onCore (setClockWait NoHalf) s))
+fireClockOf now k s = firing (dueOf (halfEnd (s .«clock_wait») k) now) s (clockStepOf now k (setClockWait NoHalf s))

@@ -11,15 +11,14 @@ use Rattle.frames.specs.declared.Phase.the-variants.{Ack, Data, Done}
 use Rattle.frames.specs.declared.Phase.{Phase}
 use Rattle.iic.specs.Answers.{andThen, fine}
 use Rattle.iic.specs.Kick.{kickOf}
-use Rattle.iic.specs.State.{onCore, setCore}
 use Rattle.iic.specs.Waiting.{clockFrom, startClockOf, turnClockOf}
 use Rattle.iic.specs.declared.Iic.{Iic}
 use Rattle.iic.specs.declared.Stepped.{Stepped}
-use Rattle.steps.specs.Conditions.{busEdgeOf, conditionHigh, raisedOf}
-use Rattle.steps.specs.Falls.{endFrameOf, fallDataOf, fallIdleOf, fallTakenOf, followOf, insertsWait}
-use Rattle.steps.specs.Setters.{setSynchronizedHold}
-use Rattle.steps.specs.Shift.{loadTransmitOf, risingOf}
-use Rattle.steps.specs.State.{commanded, conditioned}
+use Rattle.iic.specs.Conditions.{busEdgeOf, conditionHigh, raisedOf}
+use Rattle.iic.specs.Falls.{endFrameOf, fallDataOf, fallIdleOf, fallTakenOf, followOf, insertsWait}
+use Rattle.iic.specs.Setters.{setSynchronizedHold}
+use Rattle.iic.specs.Shift.{loadTransmitOf, risingOf}
+use Rattle.iic.specs.State.{commanded, conditioned}
 use Rattle.time.specs.declared.Time.{Time}
 use Rattle.waits.specs.Half.{madeHalf}
 use Rattle.waits.specs.Rates.{periodOf}
@@ -32,62 +31,62 @@ use mathlib.Core.Bool.{Bool, _&&_, cond, false, not, true}
 -- ICMR's WAIT lengthens a master's wait by two clocks, paused or not (753)
 abbrev pub longer : MaybeHalf → Iic → Stepped
 longer NoHalf s = fine s
-longer (Half w) s = clockFrom (madeHalf (w .paused) (fits (w .count + 4 * periodOf (s .core .registers .control)))) s
+longer (Half w) s = clockFrom (madeHalf (w .paused) (fits (w .count + 4 * periodOf (s .registers .control)))) s
 
 -- where WAIT asks for it (752)
 unfoldable pub insertWaitOf : Iic → Stepped
-insertWaitOf s = cond (insertsWait (s .core)) (longer (s .core .«clock_wait») s) (fine s)
+insertWaitOf s = cond (insertsWait s) (longer (s .«clock_wait») s) (fine s)
 
 -- the eighth fall, then ICMR's WAIT (740)
 unfoldable pub fallAckOf : Frame → Time → Iic → Stepped
-fallAckOf f now s = insertWaitOf (onCore (fallTakenOf f now) s)
+fallAckOf f now s = insertWaitOf (fallTakenOf f now s)
 
 -- by the phase (726)
 abbrev pub fallAt : Phase → Frame → Time → Iic → Stepped
-fallAt Data f now s = fine (setCore (fallDataOf (loadTransmitOf (s .core))) s)
+fallAt Data f now s = fine (fallDataOf (loadTransmitOf s))
 fallAt Ack f now s = fallAckOf f now s
 fallAt Done f now s = fine s
 
 abbrev pub fallIn : Framing → Time → Iic → Stepped
-fallIn NoFrame now s = fine (onCore fallIdleOf s)
+fallIn NoFrame now s = fine (fallIdleOf s)
 fallIn (InFrame f) now s = fallAt (f .phase) f now s
 
 unfoldable pub fallOf : Time → Iic → Stepped
-fallOf now s = fallIn (s .core .frame) now s
+fallOf now s = fallIn (s .frame) now s
 
 -- what follows the kick (710)
 abbrev pub fallOn : Time → Iic → Stepped
-fallOn now s = fallOf now (onCore followOf s)
+fallOn now s = fallOf now (followOf s)
 
 -- a condition under way is left alone, a command starts, a frame that is through ends (695 to 709)
 unfoldable pub fallingOf : Time → Clocks → Iic → Stepped
 fallingOf now k s =
-    cond (conditioned (s .core)) (fine s)
-    (cond (commanded (s .core)) (kickOf now k s) (andThen (kickOf now k (onCore endFrameOf s)) (fallOn now)))
+    cond (conditioned s) (fine s)
+    (cond (commanded s) (kickOf now k s) (andThen (kickOf now k (endFrameOf s)) (fallOn now)))
 
 -- ## `filtered_edges` (508)
 
 -- SCL is high again: the wait that a stretched clock paused goes on (543)
 unfoldable pub stretchEndsOf : Time → Clocks → Iic → Stepped
 stretchEndsOf now k s =
-    cond (s .core .flags .«synchronized_hold» && s .core .lines .filtered .scl)
-    (turnClockOf true now k (onCore (setSynchronizedHold false) s)) (fine s)
+    cond (s .flags .«synchronized_hold» && s .lines .filtered .scl)
+    (turnClockOf true now k (setSynchronizedHold false s)) (fine s)
 
 -- a condition under way goes on as the levels have risen (549)
 unfoldable pub conditionStepOf : Time → Clocks → Iic → Stepped
-conditionStepOf now k s = cond (conditionHigh (s .core)) (startClockOf now k (onCore raisedOf s)) (fine s)
+conditionStepOf now k s = cond (conditionHigh s) (startClockOf now k (raisedOf s)) (fine s)
 
 -- the clock itself rises or falls (557)
 unfoldable pub sclEdgeOf : Bool → Time → Clocks → Iic → Stepped
 sclEdgeOf was now k s =
-    cond (not was && s .core .lines .filtered .scl) (fine (onCore (risingOf (s .core .lines .filtered .sda)) s))
-    (cond (was && not (s .core .lines .filtered .scl)) (fallingOf now k s) (fine s))
+    cond (not was && s .lines .filtered .scl) (fine (risingOf (s .lines .filtered .sda) s))
+    (cond (was && not (s .lines .filtered .scl)) (fallingOf now k s) (fine s))
 
 -- nothing more in reset (540)
 abbrev pub edgesFrom : Bool → Time → Clocks → Iic → Stepped
 edgesFrom was now k s =
-    cond (s .core .flags .reset) (fine s)
+    cond (s .flags .reset) (fine s)
     (andThen (andThen (stretchEndsOf now k s) (conditionStepOf now k)) (sclEdgeOf was now k))
 
 unfoldable pub filteredEdgesOf : Levels → Time → Clocks → Iic → Stepped
-filteredEdgesOf old now k s = edgesFrom (old .scl) now k (onCore (busEdgeOf old) s)
+filteredEdgesOf old now k s = edgesFrom (old .scl) now k (busEdgeOf old s)

@@ -1,4 +1,13 @@
+pub mod Bits
+pub mod Setters
 pub mod State
+pub mod Shift
+pub mod Conditions
+pub mod Falls
+pub mod Ready
+pub mod Registers
+pub mod Filter
+pub mod Checks
 pub mod Answers
 pub mod Waiting
 pub mod Kick

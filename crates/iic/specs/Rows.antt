@@ -15,11 +15,9 @@ use Rattle.iic.specs.State.{defaultIic, stopShifterOf}
 use Rattle.iic.specs.declared.Iic.{Iic}
 use Rattle.iic.specs.declared.Pins.the-variants.{Driven, NoPins}
 use Rattle.iic.specs.declared.Pins.{Pins}
-use Rattle.steps.specs.Access.{controlSet, giveDataOf, peekAt, redirected, registerAt, takeControlOf, writeEnableOf, writeModeOf, writeStatusOf}
-use Rattle.steps.specs.Setters.{setAddress, setFrame}
-use Rattle.steps.specs.Shift.{addressedOf, lastBitOf, matchedOf, risingDataOf, risingOf, selectOf, whenLostOf}
-use Rattle.steps.specs.State.{defaultCore, stopCoreOf}
-use Rattle.steps.specs.declared.Core.{Core}
+use Rattle.iic.specs.Registers.{controlSet, giveDataOf, peekAt, redirected, registerAt, takeControlOf, writeEnableOf, writeModeOf, writeStatusOf}
+use Rattle.iic.specs.Setters.{setAddress, setFrame}
+use Rattle.iic.specs.Shift.{addressedOf, lastBitOf, matchedOf, risingDataOf, risingOf, selectOf, whenLostOf}
 use Rattle.time.specs.Clock.{afterOf, edgeOf, edgesBeforeOf, zeroIn}
 use Rattle.time.specs.Laws.{edges-before-is}
 use Rattle.time.specs.Time.{momentOf, nextTime, timeOf}
@@ -70,9 +68,9 @@ abbrev ticksAt : ℕ → Count
 ticksAt f = domainTicks (runningFrom (at 0) third) (at f)
 
 -- seven bits of an address byte are in
-abbrev addressed : Core
+abbrev addressed : Iic
 addressed =
-    setAddress 0xa0 (setFrame (InFrame (record { shift = 0x50; remaining = 1; phase = Data; address = true; transmit = false; loaded = true; last = false })) defaultCore)
+    setAddress 0xa0 (setFrame (InFrame (record { shift = 0x50; remaining = 1; phase = Data; address = true; transmit = false; loaded = true; last = false })) defaultIic)
 
 -- the rows, by what a write of a byte and a read leave
 unfoldable pub rowsOf : (ℕ → ℕ → Iic → Iic) → (ℕ → Iic → Iic) → List Row
@@ -116,7 +114,7 @@ module _ (now : Time) (k : Clocks) where
 
   -- every row shows what document 01 has, over any clock set without a zero, at any time
   pub rows-hold : hasZero k ≡ false → AllHold rows
-  unfolding rowsOf registerAt peekAt readAt writeAt controlSet redirected takeControlOf writeControlOf writeModeOf writeEnableOf writeStatusOf giveDataOf sendOnOf writeDataOf guardOf peekOf readOf writeOf kickOf mirrorOf ordered risingOf risingDataOf whenLostOf lastBitOf addressedOf matchedOf selectOf defaultCore defaultIic stopCoreOf stopShifterOf rate periodOf afterOf edgeOf momentOf zeroIn domainTicks nextTime edgesBeforeOf
+  unfolding rowsOf registerAt peekAt readAt writeAt controlSet redirected takeControlOf writeControlOf writeModeOf writeEnableOf writeStatusOf giveDataOf sendOnOf writeDataOf guardOf peekOf readOf writeOf kickOf mirrorOf ordered risingOf risingDataOf whenLostOf lastBitOf addressedOf matchedOf selectOf defaultIic stopShifterOf rate periodOf afterOf edgeOf momentOf zeroIn domainTicks nextTime edgesBeforeOf
   rows-hold free =
       subst (λ (z : Bool). AllHold (rowsBy z)) (sym free)
       (rw (edges-before-is third 0x5555555555555555 (lit< tt) (lit< tt), edges-before-is third 0x5555555555555556 (lit< tt) (lit< tt)) refl)

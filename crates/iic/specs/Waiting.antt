@@ -5,12 +5,11 @@ use Rattle.clocks.specs.declared.Clocks.{Clocks}
 use Rattle.clocks.specs.declared.wait.NewWait.the-variants as wait
 use Rattle.clocks.specs.declared.wait.NewWait.{NewWait}
 use Rattle.iic.specs.Answers.{fine, refused}
-use Rattle.iic.specs.State.{onCore, setFilterWait, setSetupWait}
+use Rattle.iic.specs.Setters.{setFilterWait, setSetupWait, setClockWait, setMonitorWait}
 use Rattle.iic.specs.declared.Iic.{Iic}
 use Rattle.iic.specs.declared.Stepped.{Stepped}
-use Rattle.steps.specs.Filter.{unsettled}
-use Rattle.steps.specs.Setters.{setClockWait, setMonitorWait}
-use Rattle.steps.specs.State.{awake}
+use Rattle.iic.specs.Filter.{unsettled}
+use Rattle.iic.specs.State.{awake}
 use Rattle.time.specs.declared.Time.{Time}
 use Rattle.waits.specs.Ends.{isWait, turnHalf, turnWait}
 use Rattle.waits.specs.Half.{halfAfter}
@@ -34,10 +33,10 @@ waitFrom set (wait.Made w) s = fine (set (Waiting w) s)
 waitFrom set (wait.Refused n) s = refused n s
 
 abbrev pub clockFrom : NewHalf → Iic → Stepped
-clockFrom w s = halfFrom (λ x. onCore (setClockWait x)) w s
+clockFrom w s = halfFrom setClockWait w s
 
 abbrev pub monitorFrom : NewHalf → Iic → Stepped
-monitorFrom w s = halfFrom (λ x. onCore (setMonitorWait x)) w s
+monitorFrom w s = halfFrom setMonitorWait w s
 
 abbrev pub filterFrom : NewWait → Iic → Stepped
 filterFrom w s = waitFrom setFilterWait w s
@@ -47,19 +46,19 @@ setupFrom w s = waitFrom setSetupWait w s
 
 -- half a clock from now on (552, 555, 775, 808, 850, 864, 879)
 unfoldable pub startClockOf : Time → Clocks → Iic → Stepped
-startClockOf now k s = clockFrom (halfAfter now (periodOf (s .core .registers .control)) k) s
+startClockOf now k s = clockFrom (halfAfter now (periodOf (s .registers .control)) k) s
 
 -- until a rising clock is looked at (881)
 unfoldable pub startMonitorOf : Time → Clocks → Iic → Stepped
-startMonitorOf now k s = monitorFrom (halfAfter now (monitorHalves (s .core .registers .control)) k) s
+startMonitorOf now k s = monitorFrom (halfAfter now (monitorHalves (s .registers .control)) k) s
 
 -- before a slave releases SCL (777)
 unfoldable pub startSetupOf : Time → Clocks → Iic → Stepped
-startSetupOf now k s = setupFrom (waitAfter now (setupCycles (s .core .registers .control)) (systemTap 1) k) s
+startSetupOf now k s = setupFrom (waitAfter now (setupCycles (s .registers .control)) (systemTap 1) k) s
 
 -- `schedule_filter`: enabled, gate on, no such wait yet, and a level still on its way through the filter (416)
 abbrev pub wantsFilter : Iic → Bool
-wantsFilter s = awake (s .core) && not (isWait (s .«filter_wait»)) && unsettled (s .core)
+wantsFilter s = awake s && not (isWait (s .«filter_wait»)) && unsettled s
 
 unfoldable pub scheduleFilterOf : Time → Clocks → Iic → Stepped
 scheduleFilterOf now k s = cond (wantsFilter s) (filterFrom (waitAfter now 1 (systemTap 1) k) s) (fine s)
@@ -76,10 +75,10 @@ turnWaitIn from gate now k (Waiting w) s = from (turnWait gate now k w) s
 
 -- the clock's (385 to 394), and while SCL is stretched (397, 497, 546)
 unfoldable pub turnClockOf : Bool → Time → Clocks → Iic → Stepped
-turnClockOf gate now k s = turnHalfIn clockFrom gate now k (s .core .«clock_wait») s
+turnClockOf gate now k s = turnHalfIn clockFrom gate now k (s .«clock_wait») s
 
 unfoldable pub turnMonitorOf : Bool → Time → Clocks → Iic → Stepped
-turnMonitorOf gate now k s = turnHalfIn monitorFrom gate now k (s .core .«monitor_wait») s
+turnMonitorOf gate now k s = turnHalfIn monitorFrom gate now k (s .«monitor_wait») s
 
 -- the filter's, then the setup's (400 to 409)
 unfoldable pub turnFilterOf : Bool → Time → Clocks → Iic → Stepped

@@ -1,16 +1,15 @@
 // The registers as the host reads and writes them, with what follows in time.
 ghost use mathlib.Core.Path.{_≡_};
 ghost use Rattle.iic.specs.Answers.{fine, andThen};
-ghost use Rattle.iic.specs.State.{onCore};
 ghost use Rattle.iic.specs.Access.{readDataOf, readAt, writeControlOf, writeCommandOf, writeDataOf, writeAt};
-ghost use Rattle.steps.specs.Access.{stopReceiveOf};
+ghost use Rattle.iic.specs.Registers.{stopReceiveOf};
+use super::Command;
 use super::Iic;
+use super::Register;
 use super::Stepped;
+use super::bits::BBSY;
+use super::bits::IICRST;
 use clocks::Clocks;
-use steps::Command;
-use steps::Register;
-use steps::bits::BBSY;
-use steps::bits::IICRST;
 use time::Time;
 use waits::MaybeWait;
 
@@ -18,13 +17,13 @@ impl Iic {
     fn read_data(mut self, now: Time, clocks: Clocks) -> Stepped
         ensures { λ r. ⌜ r ≡ readDataOf now clocks self ⌝ }
     {
-        self.core = self.core.taken(now);
-        if self.core.transmit() {
+        self = self.taken(now);
+        if self.transmit() {
             return self.fine();
         }
-        self.core = self.core.continued();
+        self = self.continued();
         let mut next = self.fine();
-        if self.core.held() {
+        if self.held() {
             next = self.release_hold(now, clocks);
         }
         next.kick(now, clocks)
@@ -33,15 +32,14 @@ impl Iic {
     fn write_control(mut self, value: u8, now: Time, clocks: Clocks) -> Stepped
         ensures { λ r. ⌜ r ≡ writeControlOf value now clocks self ⌝ }
     {
-        self.core = self.core.take_control(value);
-        if self.core.enabled() {
+        self = self.take_control(value);
+        if self.enabled() {
             let mut next = self.fine();
             next = next.schedule_filter(now, clocks);
             next = next.stop_receive();
             return next.kick(now, clocks);
         }
-        self.core = self.core.stop_shifter();
-        self = self.with_setup_wait(MaybeWait::NoWait);
+        self = self.stop_shifter();
         self = self.with_filter_wait(MaybeWait::NoWait);
         self.fine()
     }
@@ -51,18 +49,16 @@ impl Iic {
     {
         let resets = value & IICRST != 0;
         if resets {
-            self.core = self.core.enter_reset();
-            self = self.with_setup_wait(MaybeWait::NoWait);
+            return self.enter_reset().fine();
+        }
+        if self.flags.reset {
+            self.flags.reset = false;
             return self.fine();
         }
-        if self.core.flags.reset {
-            self.core.flags.reset = false;
-            return self.fine();
-        }
-        self.core = self.core.pull_sda(value);
-        if self.core.takes_command(value) {
+        self = self.pull_sda(value);
+        if self.takes_command(value) {
             let command = Command::Commanded(value & BBSY != 0);
-            self.core = self.core.with_command(command);
+            self = self.with_command(command);
             return self.fine().kick(now, clocks);
         }
         self.fine()
@@ -71,12 +67,11 @@ impl Iic {
     fn write_data(mut self, value: u8, now: Time, clocks: Clocks) -> Stepped
         ensures { λ r. ⌜ r ≡ writeDataOf value now clocks self ⌝ }
     {
-        self.core = self.core.give_data(value);
-        let core = self.core;
-        let hold = core.hold;
+        self = self.give_data(value);
+        let hold = self.hold;
         let mut next = self.fine();
         if hold.is_transmit() {
-            self.core = core.load_transmit();
+            self = self.load_transmit();
             next = self.release_hold(now, clocks);
         }
         next.kick(now, clocks)
@@ -85,10 +80,10 @@ impl Iic {
 
 impl Stepped {
     fn stop_receive(mut self) -> Stepped
-        ensures { λ r. ⌜ r ≡ andThen self (λ u. fine (onCore stopReceiveOf u)) ⌝ }
+        ensures { λ r. ⌜ r ≡ andThen self (λ u. fine (stopReceiveOf u)) ⌝ }
     {
         if self.went_on() {
-            self = self.with_core(self.state.core.stop_receive());
+            self = self.state.stop_receive().fine();
         }
         self
     }
@@ -99,8 +94,8 @@ impl Stepped {
         if self.went_on() {
             match register {
                 Register::ICSR => {
-                    let status = self.state.core.registers.status;
-                    self.state.core.registers.seen = status;
+                    let status = self.state.registers.status;
+                    self.state.registers.seen = status;
                 }
                 Register::ICDRR => {
                     self = self.state.read_data(now, clocks);
@@ -121,7 +116,7 @@ impl Stepped {
         ensures { λ r. ⌜ r ≡ andThen self (writeAt register value now clocks) ⌝ }
     {
         if self.went_on() {
-            self = self.with_core(self.state.core.write_plain(register, value));
+            self = self.state.write_plain(register, value).fine();
             match register {
                 Register::ICCR1 => {
                     self = self.state.write_control(value, now, clocks);

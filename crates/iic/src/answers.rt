@@ -1,13 +1,12 @@
 // How steps end.
 ghost use mathlib.Core.Path.{_≡_};
 ghost use Rattle.iic.specs.Answers.{fine, refused, byteOf, truthOf};
-ghost use Rattle.iic.specs.Inside.{wentOn, withCore};
+ghost use Rattle.iic.specs.Inside.{wentOn};
 use super::Byte;
 use super::Ended;
 use super::Iic;
 use super::Stepped;
 use clocks::Truth;
-use steps::Core;
 
 impl Iic {
     pub(crate) fn fine(self) -> Stepped
@@ -61,14 +60,5 @@ impl Stepped {
             Ended::Finished => true,
             Ended::Refused(_) => false,
         }
-    }
-
-    pub(crate) fn with_core(mut self, core: Core) -> Stepped
-        ensures { λ r. ⌜ r ≡ withCore core self ⌝ }
-    {
-        let mut state = self.state;
-        state.core = core;
-        self.state = state;
-        self
     }
 }

@@ -6,11 +6,19 @@ use super::Iic;
 use super::Noticed;
 use super::Pins;
 use super::ReadOut;
+use super::Register;
 use super::Stepped;
+use super::bits::AL;
+use super::bits::FS;
+use super::bits::NACKF;
+use super::bits::NAKIE;
+use super::bits::RDRF;
+use super::bits::STOP;
+use super::bits::TDRE;
+use super::bits::TEND;
 use bus::Levels;
 use clocks::Clocks;
 use clocks::wait::Deadline;
-use steps::Register;
 use time::Time;
 use waits::ends::sooner;
 
@@ -30,10 +38,10 @@ impl Iic {
         if clocks.has_zero() {
             return self.refused(1);
         }
-        if !self.core.ranges_hold() {
+        if !self.ranges_hold() {
             return self.refused(9);
         }
-        if !self.core.progress() {
+        if !self.progress() {
             return self.refused(10);
         }
         self.fine()
@@ -43,7 +51,7 @@ impl Iic {
     pub fn peek(self, address: u16) -> u8
         ensures { λ r. ⌜ r ≡ peekOf self address ⌝ }
     {
-        self.core.peek_at(Register::at(address))
+        self.peek_at(Register::at(address))
     }
 
     pub fn read(mut self, address: u16, now: Time, clocks: Clocks) -> ReadOut
@@ -72,7 +80,7 @@ impl Iic {
         ensures { λ r. ⌜ r ≡ inputPinsOf self scl sda now clocks ⌝ }
     {
         let given = Levels { scl, sda };
-        let value = self.core.observes(given);
+        let value = self.observes(given);
         let mut next = self.guarded(clocks);
         next = next.take_pins(given, now, clocks);
         let ended = next.ended;
@@ -87,10 +95,9 @@ impl Iic {
     pub fn pins(self) -> Pins
         ensures { λ r. ⌜ r ≡ pinsOf self ⌝ }
     {
-        let core = self.core;
-        let lines = core.lines;
+        let lines = self.lines;
         let drive = lines.drive;
-        if core.enabled() {
+        if self.enabled() {
             return Pins::Driven(drive);
         }
         Pins::NoPins
@@ -112,10 +119,9 @@ impl Iic {
             return Deadline::Refused(1);
         }
         let mut next = Deadline::Never;
-        if self.core.awake() {
-            let core = self.core;
-            let clock_wait = core.clock_wait;
-            let monitor_wait = core.monitor_wait;
+        if self.awake() {
+            let clock_wait = self.clock_wait;
+            let monitor_wait = self.monitor_wait;
             let filter_wait = self.filter_wait;
             let setup_wait = self.setup_wait;
             next = sooner(monitor_wait.half_end(clocks), setup_wait.end(clocks));
@@ -144,25 +150,30 @@ impl Iic {
     pub fn interrupt_with_enable(self, retained: u8) -> bool
         ensures { λ r. ⌜ r ≡ interruptWithEnableOf self retained ⌝ }
     {
-        self.core.interrupt_with_enable(retained)
+        let enable = self.registers.enable | retained;
+        let sync = self.registers.address & FS != 0;
+        let shown = self.registers.status & enable;
+        let mask = AL | bus::flag(!sync, NACKF);
+        (shown & (TDRE | TEND | RDRF) != 0)
+            | (!sync & (shown & STOP != 0))
+            | ((enable & NAKIE != 0) & (self.registers.status & mask != 0))
     }
 
     // 0, or the number of the refusal of a state.
     pub fn validate(self, now: Time) -> u8
         ensures { λ r. ⌜ r ≡ validateOf self now ⌝ }
     {
-        let core = self.core;
-        let eighth_fall = core.eighth_fall;
-        let sound = core.ranges_hold() & eighth_fall.fell_by(now);
+        let eighth_fall = self.eighth_fall;
+        let sound = self.ranges_hold() & eighth_fall.fell_by(now);
         if !sound {
             return 9;
         }
-        if !core.progress() {
+        if !self.progress() {
             return 10;
         }
         let filter_wait = self.filter_wait;
         let setup_wait = self.setup_wait;
-        let rest = first_of(setup_wait.tap_refusal(), core.halves_refusal());
+        let rest = first_of(setup_wait.tap_refusal(), self.halves_refusal());
         first_of(filter_wait.tap_refusal(), rest)
     }
 }
@@ -171,13 +182,13 @@ impl Stepped {
     fn take_pins(mut self, given: Levels, now: Time, clocks: Clocks) -> Stepped
         ensures { λ r. ⌜ r ≡ andThen self (takePinsOf given now clocks) ⌝ }
     {
-        let core = self.state.core;
-        let lines = core.lines;
+        let state = self.state;
+        let lines = state.lines;
         let raw = lines.raw;
         let changes = self.went_on() & !bus::same_levels(raw, given);
         if changes {
-            self.state.core.lines.raw.scl = given.scl;
-            self.state.core.lines.raw.sda = given.sda;
+            self.state.lines.raw.scl = given.scl;
+            self.state.lines.raw.sda = given.sda;
             self = self.schedule_filter(now, clocks);
         }
         self
@@ -187,7 +198,7 @@ impl Stepped {
     fn keep_stretched(mut self, gate: bool, now: Time, clocks: Clocks) -> Stepped
         ensures { λ r. ⌜ r ≡ andThen self (keepStretchedOf gate now clocks) ⌝ }
     {
-        let stays = gate & self.state.core.flags.synchronized_hold;
+        let stays = gate & self.state.flags.synchronized_hold;
         if stays {
             self = self.turn_clock(false, now, clocks);
         }
@@ -197,9 +208,9 @@ impl Stepped {
     fn turn_gate(mut self, gate: bool, now: Time, clocks: Clocks) -> Stepped
         ensures { λ r. ⌜ r ≡ andThen self (turnGateOf gate now clocks) ⌝ }
     {
-        let turns = self.went_on() & (self.state.core.flags.gate != gate);
+        let turns = self.went_on() & (self.state.flags.gate != gate);
         if turns {
-            self.state.core.flags.gate = gate;
+            self.state.flags.gate = gate;
             self = self.turn_clock(gate, now, clocks);
             self = self.turn_monitor(gate, now, clocks);
             self = self.keep_stretched(gate, now, clocks);
@@ -216,7 +227,7 @@ impl Stepped {
     fn visit(mut self, now: Time, clocks: Clocks) -> Stepped
         ensures { λ r. ⌜ r ≡ andThen self (visitOf now clocks) ⌝ }
     {
-        if self.state.core.awake() {
+        if self.state.awake() {
             self = self.fire_filter(now, clocks);
             self = self.fire_setup(now, clocks);
             self = self.fire_monitor(now, clocks);

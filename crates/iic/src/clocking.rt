@@ -20,10 +20,10 @@ impl Iic {
     fn toggle(mut self, now: Time, clocks: Clocks) -> Stepped
         ensures { λ r. ⌜ r ≡ toggleOf now clocks self ⌝ }
     {
-        let clocks_bits = self.core.master() & !self.core.held();
+        let clocks_bits = self.master() & !self.held();
         if clocks_bits {
-            let level = !self.core.lines.drive.scl;
-            self.core.lines.drive.scl = level;
+            let level = !self.lines.drive.scl;
+            self.lines.drive.scl = level;
             let next = self.start_clock(now, clocks);
             return next.monitor_step(now, clocks);
         }
@@ -34,12 +34,11 @@ impl Iic {
     fn clock_step(mut self, now: Time, clocks: Clocks) -> Stepped
         ensures { λ r. ⌜ r ≡ clockStepOf now clocks self ⌝ }
     {
-        let core = self.core;
-        if !core.conditioned() {
+        if !self.conditioned() {
             return self.toggle(now, clocks);
         }
-        self.core = core.clock_condition();
-        let condition = core.condition;
+        let condition = self.condition;
+        self = self.clock_condition();
         if condition.is_start_hold() {
             return self.start_clock(now, clocks);
         }
@@ -49,10 +48,9 @@ impl Iic {
     fn filter_fires(mut self, now: Time, clocks: Clocks) -> Stepped
         ensures { λ r. ⌜ r ≡ filterFiresOf now clocks self ⌝ }
     {
-        let core = self.core;
-        let lines = core.lines;
+        let lines = self.lines;
         let old = lines.filtered;
-        self.core = core.filter_pass();
+        self = self.filter_pass();
         self = self.with_filter_wait(MaybeWait::NoWait);
         let next = self.filtered_edges(old, now, clocks);
         next.schedule_filter(now, clocks)
@@ -62,13 +60,13 @@ impl Iic {
     fn stretch(self, now: Time, clocks: Clocks) -> Stepped
         ensures { λ r. ⌜ r ≡ stretchOf now clocks self ⌝ }
     {
-        if self.core.lines.filtered.scl {
+        if self.lines.filtered.scl {
             return self.fine();
         }
         let mut next = self.fine();
         next = next.turn_clock(false, now, clocks);
         if next.went_on() {
-            next.state.core.flags.synchronized_hold = true;
+            next.state.flags.synchronized_hold = true;
         }
         next
     }
@@ -80,12 +78,12 @@ impl Stepped {
         ensures { λ r. ⌜ r ≡ andThen self (monitorStepOf now clocks) ⌝ }
     {
         if self.went_on() {
-            if self.state.core.lines.drive.scl {
-                let halves = monitor_halves(self.state.core.registers.control) as u64;
+            if self.state.lines.drive.scl {
+                let halves = monitor_halves(self.state.registers.control) as u64;
                 self = self.state
                     .monitor_from(HalfWait::after(now, halves, clocks));
             } else {
-                self = self.with_core(self.state.core.with_monitor_wait(MaybeHalf::NoHalf));
+                self = self.state.with_monitor_wait(MaybeHalf::NoHalf).fine();
             }
         }
         self
@@ -133,7 +131,7 @@ impl Stepped {
         let Due::Now = ends else {
             return self.unfired(ends);
         };
-        state.core.lines.drive.scl = true;
+        state.lines.drive.scl = true;
         state = state.with_setup_wait(MaybeWait::NoWait);
         state.fine()
     }
@@ -142,13 +140,12 @@ impl Stepped {
         ensures { λ r. ⌜ r ≡ andThen self (fireMonitorOf now clocks) ⌝ }
     {
         let mut state = self.state;
-        let core = state.core;
-        let monitor_wait = core.monitor_wait;
+        let monitor_wait = state.monitor_wait;
         let ends = self.due(monitor_wait.half_end(clocks), now);
         let Due::Now = ends else {
             return self.unfired(ends);
         };
-        state.core = core.with_monitor_wait(MaybeHalf::NoHalf);
+        state = state.with_monitor_wait(MaybeHalf::NoHalf);
         state.stretch(now, clocks)
     }
 
@@ -156,13 +153,12 @@ impl Stepped {
         ensures { λ r. ⌜ r ≡ andThen self (fireClockOf now clocks) ⌝ }
     {
         let mut state = self.state;
-        let core = state.core;
-        let clock_wait = core.clock_wait;
+        let clock_wait = state.clock_wait;
         let ends = self.due(clock_wait.half_end(clocks), now);
         let Due::Now = ends else {
             return self.unfired(ends);
         };
-        state.core = core.with_clock_wait(MaybeHalf::NoHalf);
+        state = state.with_clock_wait(MaybeHalf::NoHalf);
         state.clock_step(now, clocks)
     }
 }

@@ -18,14 +18,13 @@ use waits::rates::period;
 impl Iic {
     // ICMR's WAIT lengthens a master's wait by two clocks.
     fn longer(self) -> Stepped
-        ensures { λ r. ⌜ r ≡ longer (self .core .«clock_wait») self ⌝ }
+        ensures { λ r. ⌜ r ≡ longer (self .«clock_wait») self ⌝ }
     {
-        let core = self.core;
-        let clock_wait = core.clock_wait;
+        let clock_wait = self.clock_wait;
         let MaybeHalf::Half(w) = clock_wait else {
             return self.fine();
         };
-        let extra = 4 * (period(self.core.registers.control) as u64);
+        let extra = 4 * (period(self.registers.control) as u64);
         self.clock_from(made_half(w.paused, checked_add(w.count, extra)))
     }
 
@@ -35,13 +34,13 @@ impl Iic {
         let phase = f.phase;
         match phase {
             Phase::Data => {
-                self.core = self.core.load_transmit();
-                self.core = self.core.fall_data();
+                self = self.load_transmit();
+                self = self.fall_data();
             }
             // The eighth fall.
             Phase::Ack => {
-                self.core = self.core.take_fall(f, now);
-                if self.core.inserts_wait() {
+                self = self.take_fall(f, now);
+                if self.inserts_wait() {
                     return self.longer();
                 }
             }
@@ -54,14 +53,14 @@ impl Iic {
     fn falling(mut self, now: Time, clocks: Clocks) -> Stepped
         ensures { λ r. ⌜ r ≡ fallingOf now clocks self ⌝ }
     {
-        if self.core.conditioned() {
+        if self.conditioned() {
             return self.fine();
         }
         let mut next = self.fine();
-        if self.core.commanded() {
+        if self.commanded() {
             return next.kick(now, clocks);
         }
-        self.core = self.core.end_frame();
+        self = self.end_frame();
         next = self.fine();
         next = next.kick(now, clocks);
         next.fall(now)
@@ -71,9 +70,9 @@ impl Iic {
     fn stretch_ends(mut self, now: Time, clocks: Clocks) -> Stepped
         ensures { λ r. ⌜ r ≡ stretchEndsOf now clocks self ⌝ }
     {
-        let ends = self.core.flags.synchronized_hold & self.core.lines.filtered.scl;
+        let ends = self.flags.synchronized_hold & self.lines.filtered.scl;
         if ends {
-            self.core.flags.synchronized_hold = false;
+            self.flags.synchronized_hold = false;
             return self.fine().turn_clock(true, now, clocks);
         }
         self.fine()
@@ -82,8 +81,8 @@ impl Iic {
     pub(crate) fn filtered_edges(mut self, old: Levels, now: Time, clocks: Clocks) -> Stepped
         ensures { λ r. ⌜ r ≡ filteredEdgesOf old now clocks self ⌝ }
     {
-        self.core = self.core.bus_edge(old);
-        if self.core.flags.reset {
+        self = self.bus_edge(old);
+        if self.flags.reset {
             return self.fine();
         }
         let mut next = self.stretch_ends(now, clocks);
@@ -97,13 +96,12 @@ impl Stepped {
         ensures { λ r. ⌜ r ≡ andThen self (fallOn now) ⌝ }
     {
         if self.went_on() {
-            let core = self.state.core.follow();
-            let frame = core.frame;
-            self = self.with_core(core);
+            let state = self.state.follow();
+            let frame = state.frame;
             if let Framing::InFrame(f) = frame {
-                self = self.state.fall_at(f, now);
+                self = state.fall_at(f, now);
             } else {
-                self = self.with_core(core.fall_idle());
+                self = state.fall_idle().fine();
             }
         }
         self
@@ -113,10 +111,10 @@ impl Stepped {
     fn condition_step(mut self, now: Time, clocks: Clocks) -> Stepped
         ensures { λ r. ⌜ r ≡ andThen self (conditionStepOf now clocks) ⌝ }
     {
-        let goes = self.went_on() & self.state.core.condition_high();
+        let goes = self.went_on() & self.state.condition_high();
         if goes {
             let mut state = self.state;
-            state.core = state.core.raise_condition();
+            state = state.raise_condition();
             self = state.start_clock(now, clocks);
         }
         self
@@ -125,13 +123,13 @@ impl Stepped {
     fn scl_edge(mut self, was: bool, now: Time, clocks: Clocks) -> Stepped
         ensures { λ r. ⌜ r ≡ andThen self (sclEdgeOf was now clocks) ⌝ }
     {
-        let moved = self.went_on() & (self.state.core.lines.filtered.scl != was);
+        let moved = self.went_on() & (self.state.lines.filtered.scl != was);
         if moved {
             if was {
                 self = self.state.falling(now, clocks);
             } else {
-                let sda = self.state.core.lines.filtered.sda;
-                self = self.with_core(self.state.core.rising(sda));
+                let sda = self.state.lines.filtered.sda;
+                self = self.state.rising(sda).fine();
             }
         }
         self

@@ -2,17 +2,16 @@
 ghost use mathlib.Core.Path.{_≡_};
 ghost use Rattle.iic.specs.Answers.{fine, andThen};
 ghost use Rattle.iic.specs.Kick.{beginConditionOf, clockFrameOf, kickOf, releaseHoldOf};
-ghost use Rattle.iic.specs.State.{onCore};
 ghost use Rattle.iic.specs.Waiting.{startSetupOf};
-ghost use Rattle.steps.specs.Ready.{showOf};
+ghost use Rattle.iic.specs.Ready.{showOf};
+use super::Command;
+use super::Hold;
 use super::Iic;
 use super::Stepped;
 use clocks::Clocks;
 use clocks::tap::Tap;
 use clocks::wait::ClockWait;
 use frames::Framing;
-use steps::Command;
-use steps::Hold;
 use time::Time;
 use waits::rates::setup_cycles;
 
@@ -20,12 +19,11 @@ impl Iic {
     fn begin_condition(mut self, now: Time, clocks: Clocks) -> Stepped
         ensures { λ r. ⌜ r ≡ beginConditionOf now clocks self ⌝ }
     {
-        let core = self.core;
-        let command = core.command;
+        let command = self.command;
         let Command::Commanded(start) = command else {
             return self.fine();
         };
-        self.core = core.begun(start);
+        self = self.begun(start);
         self.start_clock(now, clocks)
     }
 
@@ -33,12 +31,11 @@ impl Iic {
     fn clock_frame(mut self, now: Time, clocks: Clocks) -> Stepped
         ensures { λ r. ⌜ r ≡ clockFrameOf now clocks self ⌝ }
     {
-        let core = self.core;
-        let frame = core.frame;
+        let frame = self.frame;
         let Framing::InFrame(f) = frame else {
             return self.fine();
         };
-        if !core.clock_due() {
+        if !self.clock_due() {
             return self.fine();
         }
         let phase = f.phase;
@@ -46,17 +43,17 @@ impl Iic {
             return self.fine();
         }
         if f.starved() {
-            self.core = core.set_hold(Hold::Transmit);
+            self = self.set_hold(Hold::Transmit);
             return self.fine();
         }
-        self.core = core.low_half(core.level(f));
+        self = self.low_half(self.level(f));
         self.start_clock(now, clocks)
     }
 
     fn start_setup(self, now: Time, clocks: Clocks) -> Stepped
         ensures { λ r. ⌜ r ≡ startSetupOf now clocks self ⌝ }
     {
-        let cycles = setup_cycles(self.core.registers.control) as u64;
+        let cycles = setup_cycles(self.registers.control) as u64;
         self.setup_from(ClockWait::after(now, cycles, Tap::system(1), clocks))
     }
 
@@ -64,8 +61,8 @@ impl Iic {
     pub(crate) fn release_hold(mut self, now: Time, clocks: Clocks) -> Stepped
         ensures { λ r. ⌜ r ≡ releaseHoldOf now clocks self ⌝ }
     {
-        self.core = self.core.with_hold(Hold::NoHold);
-        if self.core.master() {
+        self = self.with_hold(Hold::NoHold);
+        if self.master() {
             return self.start_clock(now, clocks).show();
         }
         self.start_setup(now, clocks).show()
@@ -77,24 +74,24 @@ impl Stepped {
     pub(crate) fn kick(self, now: Time, clocks: Clocks) -> Stepped
         ensures { λ r. ⌜ r ≡ andThen self (kickOf now clocks) ⌝ }
     {
-        let starts = self.went_on() & self.state.core.ready();
+        let starts = self.went_on() & self.state.ready();
         if !starts {
             return self;
         }
         let mut state = self.state;
-        if state.core.command_ready() {
+        if state.command_ready() {
             return state.begin_condition(now, clocks);
         }
-        state.core = state.core.next_frame();
-        state.core = state.core.load_transmit();
+        state = state.next_frame();
+        state = state.load_transmit();
         state.clock_frame(now, clocks)
     }
 
     fn show(mut self) -> Stepped
-        ensures { λ r. ⌜ r ≡ andThen self (λ u. fine (onCore showOf u)) ⌝ }
+        ensures { λ r. ⌜ r ≡ andThen self (λ u. fine (showOf u)) ⌝ }
     {
         if self.went_on() {
-            self = self.with_core(self.state.core.show());
+            self = self.state.show().fine();
         }
         self
     }

@@ -1,23 +1,117 @@
-// The I2C peripheral (IIC2) of the H8/38602R: its state, its steps in time and the eleven calls of its host, by value.
+// The I2C peripheral (IIC2) of the H8/38602R: its state, its steps and the eleven calls of its host, by value.
 pub mod access;
 pub mod answers;
+pub mod bits;
 pub mod calls;
+pub mod checks;
 pub mod clocking;
+pub mod conditions;
 pub mod edges;
+pub mod falls;
+pub mod filter;
 pub mod kick;
+pub mod reading;
+pub mod ready;
+pub mod shift;
 pub mod state;
 pub mod waiting;
+pub mod writing;
 
 use bus::Levels;
 use clocks::Truth;
-use steps::Core;
+use frames::Framing;
+use time::Time;
+use waits::MaybeHalf;
 use waits::MaybeWait;
 
-// The core, and the two waits that no step of the core touches.
+// A start or a stop that the master is about.
+pub enum Condition {
+    NoCondition,
+    StartRelease,
+    StartHigh,
+    StartHold,
+    StopLow,
+    StopHigh,
+    StopRelease,
+    StopDetect,
+}
+
+// A start (true) or a stop (false) that was asked for.
+pub enum Command {
+    NoCommand,
+    Commanded(bool),
+}
+
+// SCL held low until a register is served.
+pub enum Hold {
+    NoHold,
+    Transmit,
+    Receive,
+}
+
+pub enum EighthFall {
+    NoFall,
+    FellAt(Time),
+}
+
+pub struct Registers {
+    pub control: u8,
+    pub mode: u8,
+    pub count: u8,
+    pub enable: u8,
+    pub status: u8,
+    pub seen: u8,
+    pub address: u8,
+    pub tdr: u8,
+    pub rdr: u8,
+}
+
+// What the peripheral drives (true releases the line), the levels as given, and those that the filter saw and let through.
+pub struct Lines {
+    pub drive: Levels,
+    pub raw: Levels,
+    pub latch: Levels,
+    pub filtered: Levels,
+}
+
+pub struct Flags {
+    pub busy: bool,
+    pub reset: bool,
+    pub gate: bool,
+    pub synchronized_hold: bool,
+    pub selected: bool,
+    pub completed: bool,
+    pub receive_enabled: bool,
+    pub receive_stopped: bool,
+    pub stale_release: bool,
+}
+
+// The peripheral.
 pub struct Iic {
-    pub core: Core,
+    pub registers: Registers,
+    pub lines: Lines,
+    pub flags: Flags,
+    pub frame: Framing,
+    pub condition: Condition,
+    pub command: Command,
+    pub hold: Hold,
+    pub eighth_fall: EighthFall,
+    pub clock_wait: MaybeHalf,
+    pub monitor_wait: MaybeHalf,
     pub filter_wait: MaybeWait,
     pub setup_wait: MaybeWait,
+}
+
+// The registers, by the manual's names.
+pub enum Register {
+    ICCR1,
+    ICCR2,
+    ICMR,
+    ICIER,
+    ICSR,
+    SAR,
+    ICDRT,
+    ICDRR,
 }
 
 // How a step ended: refused by its number, or not.

@@ -23,7 +23,7 @@ impl Iic {
     {
         match made {
             NewHalf::Made(w) => {
-                self.core = self.core.with_clock_wait(MaybeHalf::Half(w));
+                self = self.with_clock_wait(MaybeHalf::Half(w));
                 return self.fine();
             }
             NewHalf::Refused(n) => {
@@ -37,7 +37,7 @@ impl Iic {
     {
         match made {
             NewHalf::Made(w) => {
-                self.core = self.core.with_monitor_wait(MaybeHalf::Half(w));
+                self = self.with_monitor_wait(MaybeHalf::Half(w));
                 return self.fine();
             }
             NewHalf::Refused(n) => {
@@ -76,7 +76,7 @@ impl Iic {
     pub(crate) fn start_clock(self, now: Time, clocks: Clocks) -> Stepped
         ensures { λ r. ⌜ r ≡ startClockOf now clocks self ⌝ }
     {
-        let halves = period(self.core.registers.control) as u64;
+        let halves = period(self.registers.control) as u64;
         self.clock_from(HalfWait::after(now, halves, clocks))
     }
 
@@ -85,7 +85,7 @@ impl Iic {
         ensures { λ r. ⌜ r ≡ wantsFilter self ⌝ }
     {
         let filter_wait = self.filter_wait;
-        self.core.awake() & !filter_wait.is_wait() & self.core.unsettled()
+        self.awake() & !filter_wait.is_wait() & self.unsettled()
     }
 }
 
@@ -106,8 +106,8 @@ impl Stepped {
     pub(crate) fn turn_clock(mut self, gate: bool, now: Time, clocks: Clocks) -> Stepped
         ensures { λ r. ⌜ r ≡ andThen self (turnClockOf gate now clocks) ⌝ }
     {
-        let core = self.state.core;
-        let clock_wait = core.clock_wait;
+        let state = self.state;
+        let clock_wait = state.clock_wait;
         if let MaybeHalf::Half(w) = clock_wait {
             if self.went_on() {
                 self = self.state.clock_from(turn_half(gate, now, clocks, w));
@@ -119,8 +119,8 @@ impl Stepped {
     pub(crate) fn turn_monitor(mut self, gate: bool, now: Time, clocks: Clocks) -> Stepped
         ensures { λ r. ⌜ r ≡ andThen self (turnMonitorOf gate now clocks) ⌝ }
     {
-        let core = self.state.core;
-        let monitor_wait = core.monitor_wait;
+        let state = self.state;
+        let monitor_wait = state.monitor_wait;
         if let MaybeHalf::Half(w) = monitor_wait {
             if self.went_on() {
                 self = self.state.monitor_from(turn_half(gate, now, clocks, w));

@@ -8,12 +8,12 @@ use clocks::Clocks;
 use clocks::Frequencies;
 use iic::Byte;
 use iic::Ended;
+use iic::Hold;
 use iic::Iic;
 use iic::Pins;
 use same::same_bytes;
 use same::same_ends;
 use same::same_states;
-use steps::Hold;
 use time::Time;
 
 // Two peripherals that get the same calls: one lent, one by value.
@@ -193,17 +193,13 @@ fn refused_late(k: Clocks) {
 fn refused_first(k: Clocks) {
     let mut s = Iic::new();
     finish(step(started(s), 0, 0x80, 1, 4, dead_set()));
-    s.core.registers.count = 9;
+    s.registers.count = 9;
     finish(step(started(s), 0, 0x80, 1, 4, k));
 }
 
 // The default with SCL held low.
 fn held(hold: Hold) -> Iic {
-    let s = Iic::new();
-    Iic {
-        core: s.core.with_hold(hold),
-        ..s
-    }
+    Iic::new().with_hold(hold)
 }
 
 // A write of ICDRT, then a read of ICDRR, that would release SCL past the last time: refused 7 once, since the hold is gone.

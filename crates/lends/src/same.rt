@@ -6,16 +6,15 @@ use frames::Frame;
 use frames::Framing;
 use frames::Phase;
 use iic::Byte;
+use iic::Command;
+use iic::Condition;
+use iic::EighthFall;
 use iic::Ended;
+use iic::Flags;
+use iic::Hold;
 use iic::Iic;
-use steps::Command;
-use steps::Condition;
-use steps::Core;
-use steps::EighthFall;
-use steps::Flags;
-use steps::Hold;
-use steps::Lines;
-use steps::Registers;
+use iic::Lines;
+use iic::Registers;
 use time::Time;
 use waits::HalfWait;
 use waits::MaybeHalf;
@@ -220,7 +219,7 @@ fn same_halves(a: MaybeHalf, b: MaybeHalf) -> bool {
     }
 }
 
-fn same_actions(a: Core, b: Core) -> bool {
+fn same_actions(a: Iic, b: Iic) -> bool {
     let condition = a.condition;
     let condition_b = b.condition;
     let command = a.command;
@@ -232,15 +231,22 @@ fn same_actions(a: Core, b: Core) -> bool {
         & (hold_number(hold) == hold_number(hold_b))
 }
 
-fn same_half_pairs(a: Core, b: Core) -> bool {
+fn same_timing(a: Iic, b: Iic) -> bool {
     let clock = a.clock_wait;
     let clock_b = b.clock_wait;
     let monitor = a.monitor_wait;
     let monitor_b = b.monitor_wait;
-    same_halves(clock, clock_b) & same_halves(monitor, monitor_b)
+    let filter = a.filter_wait;
+    let filter_b = b.filter_wait;
+    let setup = a.setup_wait;
+    let setup_b = b.setup_wait;
+    same_halves(clock, clock_b)
+        & same_halves(monitor, monitor_b)
+        & same_waits(filter, filter_b)
+        & same_waits(setup, setup_b)
 }
 
-fn same_cores(a: Core, b: Core) -> bool {
+pub(crate) fn same_states(a: Iic, b: Iic) -> bool {
     let frame = a.frame;
     let frame_b = b.frame;
     let fall = a.eighth_fall;
@@ -251,13 +257,5 @@ fn same_cores(a: Core, b: Core) -> bool {
         & same_framings(frame, frame_b)
         & same_actions(a, b)
         & same_falls(fall, fall_b)
-        & same_half_pairs(a, b)
-}
-
-pub(crate) fn same_states(a: Iic, b: Iic) -> bool {
-    let filter = a.filter_wait;
-    let filter_b = b.filter_wait;
-    let setup = a.setup_wait;
-    let setup_b = b.setup_wait;
-    same_cores(a.core, b.core) & same_waits(filter, filter_b) & same_waits(setup, setup_b)
+        & same_timing(a, b)
 }

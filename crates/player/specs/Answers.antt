@@ -34,4 +34,4 @@ answerText number refusal value pins status =
 -- the line of an answer
 unfoldable pub textOf : ℕ → Answer → List ℕ
 textOf number a =
-    answerText number (a .refusal) (a .value) (pinsOf (a .host .state)) (a .host .state .core .registers .status)
+    answerText number (a .refusal) (a .value) (pinsOf (a .host .state)) (a .host .state .registers .status)

@@ -101,7 +101,7 @@ impl Answer {
             self.refusal,
             value,
             state.pins(),
-            state.core.registers.status,
+            state.registers.status,
         )
     }
 }

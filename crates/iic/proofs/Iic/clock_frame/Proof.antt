@@ -1,7 +1,7 @@
 use Rattle.iic.proofs.Laws.{either, unnot}
 use Rattle.iic.specs.Answers.{fine}
 use Rattle.iic.specs.Kick.{clockFrameOf, launchOf}
-use Rattle.steps.specs.Ready.{clockDue}
+use Rattle.iic.specs.Ready.{clockDue}
 use borrow.Author.Needs.{needs}
 use Rattle.iic.proofs.Iic.clock_frame.Statement.{statement}
 use Rattle.iic.proofs.Iic.clock_frame.Tie as tie
@@ -17,7 +17,7 @@ fine-requires c κs = tt
 
 returns : tie.Need-returns
 unfolding clockFrameOf launchOf
-returns c = simp (c .fine .ensures, c .before .enum-told .given .1, either (clockDue (c .before .before .before .before .args .self .core)) (fine (c .before .before .before .before .args .self)))
+returns c = simp (c .fine .ensures, c .before .enum-told .given .1, either (clockDue (c .before .before .before .args .self)) (fine (c .before .before .before .args .self)))
 
 clock-due-requires : tie.Need-clock-due-requires
 clock-due-requires c κs = tt

@@ -35,7 +35,7 @@ sooner-requires-3 c κs = tt
 
 returns-2 : tie.Need-returns-2
 unfolding deadlineOf earliestOf
-returns-2 c = simp (c .sooner3 .ensures, ← c .before .end2 .ensures, ← c .before .before .sooner2 .ensures, ← c .before .before .before .half-end2 .ensures, ← c .before .before .before .before .sooner .ensures, ← c .before .before .before .before .before .end .ensures, ← c .before .before .before .before .before .before .half-end .ensures, c .before .before .before .before .before .before .before .before .if2 .taken, ← c .before .before .before .before .before .before .before .before .before .awake .ensures, c .before .before .before .before .before .before .before .before .before .before .if1 .left, ← c .before .before .before .before .before .before .before .before .before .before .before .has-zero .ensures)
+returns-2 c = simp (c .sooner3 .ensures, ← c .before .end2 .ensures, ← c .before .before .sooner2 .ensures, ← c .before .before .before .half-end2 .ensures, ← c .before .before .before .before .sooner .ensures, ← c .before .before .before .before .before .end .ensures, ← c .before .before .before .before .before .before .half-end .ensures, c .before .before .before .before .before .before .before .if2 .taken, ← c .before .before .before .before .before .before .before .before .awake .ensures, c .before .before .before .before .before .before .before .before .before .if1 .left, ← c .before .before .before .before .before .before .before .before .before .before .has-zero .ensures)
 
 returns-3 : tie.Need-returns-3
 unfolding deadlineOf earliestOf

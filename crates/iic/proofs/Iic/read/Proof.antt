@@ -1,7 +1,7 @@
 use Rattle.iic.proofs.Laws.{guards}
 use Rattle.iic.specs.Access.{readAt}
 use Rattle.iic.specs.Calls.{guardOf, readOf}
-use Rattle.steps.specs.Access.{registerAt}
+use Rattle.iic.specs.Registers.{registerAt}
 use Rattle.iic.proofs.Iic.read.Statement.{statement}
 use Rattle.iic.proofs.Iic.read.Tie as tie
 

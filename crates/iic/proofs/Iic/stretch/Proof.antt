@@ -3,9 +3,7 @@ use mathlib.Core.Path.{_∙_, sym}
 use Rattle.iic.proofs.Laws.{finished, stopped}
 use Rattle.iic.specs.Answers.{fine}
 use Rattle.iic.specs.Clocking.{stretchOf}
-use Rattle.iic.specs.State.{onCore}
-use Rattle.steps.specs.Setters.{setSynchronizedHold}
-use borrow.Author.Needs.{needs}
+use Rattle.iic.specs.Setters.{setSynchronizedHold}
 use Rattle.iic.proofs.Iic.stretch.Statement.{statement}
 use Rattle.iic.proofs.Iic.stretch.Tie as tie
 
@@ -25,16 +23,13 @@ turn-clock-requires c κs = tt
 went-on-requires : tie.Need-went-on-requires
 went-on-requires c κs = tt
 
-way-write-given-next : tie.Need-way-write-given-next
-way-write-given-next c = search needs
-
 returns-2 : tie.Need-returns-2
 unfolding stretchOf
 returns-2 c = simp (c .before .before .before .before .before .if1 .left, ← rw (c .before .before .before .before .fine2 .ensures) at (c .before .before .before .turn-clock .ensures), finished (c .before .before .before .turn-clock .result .ended) (sym (c .before .before .went-on .ensures) ∙ c .before .if2 .taken))
 
 returns-3 : tie.Need-returns-3
 unfolding stretchOf
-returns-3 c = simp (c .before .before .before .before .if1 .left, ← rw (c .before .before .before .fine2 .ensures) at (c .before .before .turn-clock .ensures), stopped (c .before .before .turn-clock .result) (λ u. fine (onCore (setSynchronizedHold true) u)) (sym (c .before .went-on .ensures) ∙ c .if2 .left))
+returns-3 c = simp (c .before .before .before .before .if1 .left, ← rw (c .before .before .before .fine2 .ensures) at (c .before .before .turn-clock .ensures), stopped (c .before .before .turn-clock .result) (λ u. fine (setSynchronizedHold true u)) (sym (c .before .went-on .ensures) ∙ c .if2 .left))
 
 pub stretch-spec : {M : Type 1} → statement M
-stretch-spec = tie.close (tie.spec fine-requires returns fine-requires-2 turn-clock-requires went-on-requires way-write-given-next returns-2 returns-3)
+stretch-spec = tie.close (tie.spec fine-requires returns fine-requires-2 turn-clock-requires went-on-requires returns-2 returns-3)

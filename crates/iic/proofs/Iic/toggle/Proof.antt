@@ -1,5 +1,4 @@
 use Rattle.iic.specs.Clocking.{toggleOf}
-use borrow.Author.Needs.{needs}
 use Rattle.iic.proofs.Iic.toggle.Statement.{statement}
 use Rattle.iic.proofs.Iic.toggle.Tie as tie
 
@@ -8,9 +7,6 @@ master-requires c κs = tt
 
 held-requires : tie.Need-held-requires
 held-requires c κs = tt
-
-way-write-given-self : tie.Need-way-write-given-self
-way-write-given-self c = search needs
 
 start-clock-requires : tie.Need-start-clock-requires
 start-clock-requires c κs = tt
@@ -30,4 +26,4 @@ unfolding toggleOf
 returns-2 c = simp (c .fine .ensures, c .before .if1 .left, ← c .before .before .held .ensures, ← c .before .before .before .master .ensures)
 
 pub toggle-spec : {M : Type 1} → statement M
-toggle-spec = tie.close (tie.spec master-requires held-requires way-write-given-self start-clock-requires monitor-step-requires returns fine-requires returns-2)
+toggle-spec = tie.close (tie.spec master-requires held-requires start-clock-requires monitor-step-requires returns fine-requires returns-2)

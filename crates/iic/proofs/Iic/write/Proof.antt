@@ -1,7 +1,7 @@
 use Rattle.iic.proofs.Laws.{guards}
 use Rattle.iic.specs.Access.{writeAt}
 use Rattle.iic.specs.Calls.{guardOf, writeOf}
-use Rattle.steps.specs.Access.{registerAt}
+use Rattle.iic.specs.Registers.{registerAt}
 use Rattle.iic.proofs.Iic.write.Statement.{statement}
 use Rattle.iic.proofs.Iic.write.Tie as tie
 

@@ -5,15 +5,12 @@ use Rattle.iic.proofs.Iic.write_command.Tie as tie
 enter-reset-requires : tie.Need-enter-reset-requires
 enter-reset-requires c κs = tt
 
-with-setup-wait-requires : tie.Need-with-setup-wait-requires
-with-setup-wait-requires c κs = tt
-
 fine-requires : tie.Need-fine-requires
 fine-requires c κs = tt
 
 returns : tie.Need-returns
 unfolding writeCommandOf outOfResetOf
-returns c = simp (c .fine .ensures, c .before .with-setup-wait .ensures, ← c .before .before .enter-reset .ensures, c .before .before .before .if1 .taken)
+returns c = simp (c .fine .ensures, ← c .before .enter-reset .ensures, c .before .before .if1 .taken)
 
 fine-requires-2 : tie.Need-fine-requires-2
 fine-requires-2 c κs = tt
@@ -49,4 +46,4 @@ unfolding writeCommandOf outOfResetOf
 returns-4 c = simp (c .fine4 .ensures, c .before .if3 .left, ← c .before .before .takes-command .ensures, ← c .before .before .before .pull-sda .ensures, c .before .before .before .before .if2 .left, c .before .before .before .before .before .if1 .left)
 
 pub write-command-spec : {M : Type 1} → statement M
-write-command-spec = tie.close (tie.spec enter-reset-requires with-setup-wait-requires fine-requires returns fine-requires-2 returns-2 pull-sda-requires takes-command-requires with-command-requires fine-requires-3 kick-requires returns-3 fine-requires-4 returns-4)
+write-command-spec = tie.close (tie.spec enter-reset-requires fine-requires returns fine-requires-2 returns-2 pull-sda-requires takes-command-requires with-command-requires fine-requires-3 kick-requires returns-3 fine-requires-4 returns-4)

@@ -1,4 +1,3 @@
-use Rattle.iic.specs.State.{stopShifterOf}
 use Rattle.iic.specs.Access.{writeControlOf}
 use Rattle.iic.proofs.Iic.write_control.Statement.{statement}
 use Rattle.iic.proofs.Iic.write_control.Tie as tie
@@ -22,14 +21,11 @@ kick-requires : tie.Need-kick-requires
 kick-requires c κs = tt
 
 returns : tie.Need-returns
-unfolding writeControlOf stopShifterOf
+unfolding writeControlOf
 returns c = simp (c .kick .ensures, c .before .stop-receive .ensures, c .before .before .schedule-filter .ensures, c .before .before .before .fine .ensures, ← c .before .before .before .before .before .before .take-control .ensures, c .before .before .before .before .if1 .taken, ← c .before .before .before .before .before .enabled .ensures)
 
 stop-shifter-requires : tie.Need-stop-shifter-requires
 stop-shifter-requires c κs = tt
-
-with-setup-wait-requires : tie.Need-with-setup-wait-requires
-with-setup-wait-requires c κs = tt
 
 with-filter-wait-requires : tie.Need-with-filter-wait-requires
 with-filter-wait-requires c κs = tt
@@ -38,8 +34,8 @@ fine-requires-2 : tie.Need-fine-requires-2
 fine-requires-2 c κs = tt
 
 returns-2 : tie.Need-returns-2
-unfolding writeControlOf stopShifterOf
-returns-2 c = simp (c .fine2 .ensures, c .before .with-filter-wait .ensures, c .before .before .with-setup-wait .ensures, ← c .before .before .before .stop-shifter .ensures, c .before .before .before .before .if1 .left, ← c .before .before .before .before .before .enabled .ensures, ← c .before .before .before .before .before .before .take-control .ensures)
+unfolding writeControlOf
+returns-2 c = simp (c .fine2 .ensures, c .before .with-filter-wait .ensures, ← c .before .before .stop-shifter .ensures, c .before .before .before .if1 .left, ← c .before .before .before .before .enabled .ensures, ← c .before .before .before .before .before .take-control .ensures)
 
 pub write-control-spec : {M : Type 1} → statement M
-write-control-spec = tie.close (tie.spec take-control-requires enabled-requires fine-requires schedule-filter-requires stop-receive-requires kick-requires returns stop-shifter-requires with-setup-wait-requires with-filter-wait-requires fine-requires-2 returns-2)
+write-control-spec = tie.close (tie.spec take-control-requires enabled-requires fine-requires schedule-filter-requires stop-receive-requires kick-requires returns stop-shifter-requires with-filter-wait-requires fine-requires-2 returns-2)

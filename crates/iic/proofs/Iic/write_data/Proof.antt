@@ -25,8 +25,8 @@ returns : tie.Need-returns
 unfolding writeDataOf sendOnOf
 returns c =
     elim (c .before .if1 .came) [
-      | inl x ↦ simp (c .kick .ensures, x .3, x .2 .ensures, x .1 .ensures, ← c .before .before .before .before .before .give-data .ensures, x .0 .taken, ← c .before .before .is-transmit .ensures)
-      | inr x ↦ simp (c .kick .ensures, x .1, c .before .before .before .fine .ensures, ← c .before .before .before .before .before .give-data .ensures, x .0 .left, ← c .before .before .is-transmit .ensures)
+      | inl x ↦ simp (c .kick .ensures, x .3, x .2 .ensures, x .1 .ensures, ← c .before .before .before .before .give-data .ensures, x .0 .taken, ← c .before .before .is-transmit .ensures)
+      | inr x ↦ simp (c .kick .ensures, x .1, c .before .before .before .fine .ensures, ← c .before .before .before .before .give-data .ensures, x .0 .left, ← c .before .before .is-transmit .ensures)
     ]
 
 pub write-data-spec : {M : Type 1} → statement M

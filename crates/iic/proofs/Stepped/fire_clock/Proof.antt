@@ -1,7 +1,6 @@
 use Rattle.waits.specs.Ends.{dueOf, halfEnd}
 use Rattle.waits.specs.declared.MaybeHalf.the-variants.{NoHalf}
-use Rattle.steps.specs.Setters.{setClockWait}
-use Rattle.iic.specs.State.{onCore}
+use Rattle.iic.specs.Setters.{setClockWait}
 use mathlib.Core.Path.{_∙_, _≡_, refl, sym}
 use Rattle.iic.proofs.Laws.{fires, unfires}
 use Rattle.iic.specs.Clocking.{clockStepOf, fireClockOf}
@@ -24,9 +23,9 @@ unfired-requires c κs = tt
 returns : tie.Need-returns
 unfolding fireClockOf
 returns c =
-    let a = c .before .before .before .before .before .before .args in
+    let a = c .before .before .before .before .before .args in
     c .unfired .ensures
-    ∙ unfires (fireClockOf (a .now) (a .clocks)) (dueOf (halfEnd (a .self .state .core .«clock_wait») (a .clocks)) (a .now)) (clockStepOf (a .now) (a .clocks) (onCore (setClockWait NoHalf) (a .self .state))) (a .self) refl (c .before .before .due .result) (c .before .match .keys2)
+    ∙ unfires (fireClockOf (a .now) (a .clocks)) (dueOf (halfEnd (a .self .state .«clock_wait») (a .clocks)) (a .now)) (clockStepOf (a .now) (a .clocks) (setClockWait NoHalf (a .self .state))) (a .self) refl (c .before .before .due .result) (c .before .match .keys2)
     (sym (rw (c .before .before .before .half-end .ensures) at (c .before .before .due .ensures)))
 
 with-clock-wait-requires : tie.Need-with-clock-wait-requires
@@ -38,9 +37,9 @@ clock-step-requires c κs = tt
 returns-2 : tie.Need-returns-2
 unfolding fireClockOf
 returns-2 c =
-    let a = c .before .before .before .before .before .before .before .before .args in
-    let e : c .clock-step .result ≡ clockStepOf (a .now) (a .clocks) (onCore (setClockWait NoHalf) (a .self .state)) = simp (c .clock-step .ensures, c .before .with-clock-wait .ensures) in
-    e ∙ fires (fireClockOf (a .now) (a .clocks)) (dueOf (halfEnd (a .self .state .core .«clock_wait») (a .clocks)) (a .now)) (clockStepOf (a .now) (a .clocks) (onCore (setClockWait NoHalf) (a .self .state))) (a .self) refl
+    let a = c .before .before .before .before .before .before .before .args in
+    let e : c .clock-step .result ≡ clockStepOf (a .now) (a .clocks) (setClockWait NoHalf (a .self .state)) = simp (c .clock-step .ensures, c .before .with-clock-wait .ensures) in
+    e ∙ fires (fireClockOf (a .now) (a .clocks)) (dueOf (halfEnd (a .self .state .«clock_wait») (a .clocks)) (a .now)) (clockStepOf (a .now) (a .clocks) (setClockWait NoHalf (a .self .state))) (a .self) refl
     (sym (rw (c .before .before .before .before .before .half-end .ensures) at (c .before .before .before .before .due .ensures)) ∙ c .before .before .enum-told .given .1)
 
 pub fire-clock-spec : {M : Type 1} → statement M

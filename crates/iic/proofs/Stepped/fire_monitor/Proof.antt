@@ -1,7 +1,6 @@
 use Rattle.waits.specs.Ends.{dueOf, halfEnd}
 use Rattle.waits.specs.declared.MaybeHalf.the-variants.{NoHalf}
-use Rattle.steps.specs.Setters.{setMonitorWait}
-use Rattle.iic.specs.State.{onCore}
+use Rattle.iic.specs.Setters.{setMonitorWait}
 use mathlib.Core.Path.{_∙_, _≡_, refl, sym}
 use Rattle.iic.proofs.Laws.{fires, unfires}
 use Rattle.iic.specs.Clocking.{fireMonitorOf, stretchOf}
@@ -24,9 +23,9 @@ unfired-requires c κs = tt
 returns : tie.Need-returns
 unfolding fireMonitorOf
 returns c =
-    let a = c .before .before .before .before .before .before .args in
+    let a = c .before .before .before .before .before .args in
     c .unfired .ensures
-    ∙ unfires (fireMonitorOf (a .now) (a .clocks)) (dueOf (halfEnd (a .self .state .core .«monitor_wait») (a .clocks)) (a .now)) (stretchOf (a .now) (a .clocks) (onCore (setMonitorWait NoHalf) (a .self .state))) (a .self) refl (c .before .before .due .result) (c .before .match .keys2)
+    ∙ unfires (fireMonitorOf (a .now) (a .clocks)) (dueOf (halfEnd (a .self .state .«monitor_wait») (a .clocks)) (a .now)) (stretchOf (a .now) (a .clocks) (setMonitorWait NoHalf (a .self .state))) (a .self) refl (c .before .before .due .result) (c .before .match .keys2)
     (sym (rw (c .before .before .before .half-end .ensures) at (c .before .before .due .ensures)))
 
 with-monitor-wait-requires : tie.Need-with-monitor-wait-requires
@@ -38,9 +37,9 @@ stretch-requires c κs = tt
 returns-2 : tie.Need-returns-2
 unfolding fireMonitorOf
 returns-2 c =
-    let a = c .before .before .before .before .before .before .before .before .args in
-    let e : c .stretch .result ≡ stretchOf (a .now) (a .clocks) (onCore (setMonitorWait NoHalf) (a .self .state)) = simp (c .stretch .ensures, c .before .with-monitor-wait .ensures) in
-    e ∙ fires (fireMonitorOf (a .now) (a .clocks)) (dueOf (halfEnd (a .self .state .core .«monitor_wait») (a .clocks)) (a .now)) (stretchOf (a .now) (a .clocks) (onCore (setMonitorWait NoHalf) (a .self .state))) (a .self) refl
+    let a = c .before .before .before .before .before .before .before .args in
+    let e : c .stretch .result ≡ stretchOf (a .now) (a .clocks) (setMonitorWait NoHalf (a .self .state)) = simp (c .stretch .ensures, c .before .with-monitor-wait .ensures) in
+    e ∙ fires (fireMonitorOf (a .now) (a .clocks)) (dueOf (halfEnd (a .self .state .«monitor_wait») (a .clocks)) (a .now)) (stretchOf (a .now) (a .clocks) (setMonitorWait NoHalf (a .self .state))) (a .self) refl
     (sym (rw (c .before .before .before .before .before .half-end .ensures) at (c .before .before .before .before .due .ensures)) ∙ c .before .before .enum-told .given .1)
 
 pub fire-monitor-spec : {M : Type 1} → statement M

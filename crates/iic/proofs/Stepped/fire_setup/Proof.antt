@@ -1,8 +1,8 @@
 use Rattle.waits.specs.Ends.{dueOf, waitEnd}
 use mathlib.Core.Bool.{true}
-use Rattle.steps.specs.State.{driveScl}
+use Rattle.iic.specs.State.{driveScl}
 use Rattle.waits.specs.declared.MaybeWait.the-variants.{NoWait}
-use Rattle.iic.specs.State.{onCore, setSetupWait}
+use Rattle.iic.specs.Setters.{setSetupWait}
 use Rattle.iic.specs.Answers.{fine}
 use mathlib.Core.Path.{_∙_, _≡_, refl, sym}
 use Rattle.iic.proofs.Laws.{fires, unfires}
@@ -28,11 +28,8 @@ unfolding fireSetupOf
 returns c =
     let a = c .before .before .before .before .before .args in
     c .unfired .ensures
-    ∙ unfires (fireSetupOf (a .now) (a .clocks)) (dueOf (waitEnd (a .self .state .«setup_wait») (a .clocks)) (a .now)) (fine (setSetupWait NoWait (onCore (driveScl true) (a .self .state)))) (a .self) refl (c .before .before .due .result) (c .before .match .keys2)
+    ∙ unfires (fireSetupOf (a .now) (a .clocks)) (dueOf (waitEnd (a .self .state .«setup_wait») (a .clocks)) (a .now)) (fine (setSetupWait NoWait (driveScl true (a .self .state)))) (a .self) refl (c .before .before .due .result) (c .before .match .keys2)
     (sym (rw (c .before .before .before .end .ensures) at (c .before .before .due .ensures)))
-
-way-write-given-state : tie.Need-way-write-given-state
-way-write-given-state c = search needs
 
 with-setup-wait-requires : tie.Need-with-setup-wait-requires
 with-setup-wait-requires c κs = tt
@@ -44,9 +41,9 @@ returns-2 : tie.Need-returns-2
 unfolding fireSetupOf
 returns-2 c =
     let a = c .before .before .before .before .before .before .before .before .args in
-    let e : c .fine .result ≡ fine (setSetupWait NoWait (onCore (driveScl true) (a .self .state))) = simp (c .fine .ensures, c .before .with-setup-wait .ensures) in
-    e ∙ fires (fireSetupOf (a .now) (a .clocks)) (dueOf (waitEnd (a .self .state .«setup_wait») (a .clocks)) (a .now)) (fine (setSetupWait NoWait (onCore (driveScl true) (a .self .state)))) (a .self) refl
+    let e : c .fine .result ≡ fine (setSetupWait NoWait (driveScl true (a .self .state))) = simp (c .fine .ensures, c .before .with-setup-wait .ensures) in
+    e ∙ fires (fireSetupOf (a .now) (a .clocks)) (dueOf (waitEnd (a .self .state .«setup_wait») (a .clocks)) (a .now)) (fine (setSetupWait NoWait (driveScl true (a .self .state)))) (a .self) refl
     (sym (rw (c .before .before .before .before .before .before .end .ensures) at (c .before .before .before .before .before .due .ensures)) ∙ c .before .before .before .enum-told .given .1)
 
 pub fire-setup-spec : {M : Type 1} → statement M
-fire-setup-spec = tie.close (tie.spec end-requires due-requires enum-told unfired-requires returns way-write-given-state with-setup-wait-requires fine-requires returns-2)
+fire-setup-spec = tie.close (tie.spec end-requires due-requires enum-told unfired-requires returns with-setup-wait-requires fine-requires returns-2)

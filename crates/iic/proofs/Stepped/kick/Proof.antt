@@ -3,7 +3,7 @@ use mathlib.Core.Path.{sym}
 use Rattle.iic.proofs.Laws.{both, kept, unnot}
 use Rattle.iic.specs.Inside.{wentOn}
 use Rattle.iic.specs.Kick.{kickOf}
-use Rattle.steps.specs.Ready.{ready}
+use Rattle.iic.specs.Ready.{ready}
 use Rattle.iic.proofs.Stepped.kick.Statement.{statement}
 use Rattle.iic.proofs.Stepped.kick.Tie as tie
 
@@ -17,7 +17,7 @@ returns : tie.Need-returns
 unfolding kickOf
 returns c =
     let a = c .before .before .before .args in
-    sym (kept (a .self) (kickOf (a .now) (a .clocks)) (ready (a .self .state .core)) (unnot (wentOn (a .self .ended) && (ready (a .self .state .core))) (rw (c .before .before .went-on .ensures, c .before .ready .ensures) at (c .if1 .taken))) (λ k. simp k))
+    sym (kept (a .self) (kickOf (a .now) (a .clocks)) (ready (a .self .state)) (unnot (wentOn (a .self .ended) && (ready (a .self .state))) (rw (c .before .before .went-on .ensures, c .before .ready .ensures) at (c .if1 .taken))) (λ k. simp k))
 
 command-ready-requires : tie.Need-command-ready-requires
 command-ready-requires c κs = tt
@@ -29,7 +29,7 @@ returns-2 : tie.Need-returns-2
 unfolding kickOf
 returns-2 c =
     let a = c .before .before .before .before .before .before .before .args in
-    let h = both (a .self) (kickOf (a .now) (a .clocks)) (ready (a .self .state .core)) (unnot (wentOn (a .self .ended) && (ready (a .self .state .core))) (rw (c .before .before .before .before .before .before .went-on .ensures, c .before .before .before .before .before .ready .ensures) at (c .before .before .before .before .if1 .left))) in
+    let h = both (a .self) (kickOf (a .now) (a .clocks)) (ready (a .self .state)) (unnot (wentOn (a .self .ended) && (ready (a .self .state))) (rw (c .before .before .before .before .before .before .went-on .ensures, c .before .before .before .before .before .ready .ensures) at (c .before .before .before .before .if1 .left))) in
     simp (c .begin-condition .ensures, h .0, h .1, c .before .if2 .taken, ← c .before .before .command-ready .ensures)
 
 next-frame-requires : tie.Need-next-frame-requires
@@ -45,7 +45,7 @@ returns-3 : tie.Need-returns-3
 unfolding kickOf
 returns-3 c =
     let a = c .before .before .before .before .before .before .before .before .before .args in
-    let h = both (a .self) (kickOf (a .now) (a .clocks)) (ready (a .self .state .core)) (unnot (wentOn (a .self .ended) && (ready (a .self .state .core))) (rw (c .before .before .before .before .before .before .before .before .went-on .ensures, c .before .before .before .before .before .before .before .ready .ensures) at (c .before .before .before .before .before .before .if1 .left))) in
+    let h = both (a .self) (kickOf (a .now) (a .clocks)) (ready (a .self .state)) (unnot (wentOn (a .self .ended) && (ready (a .self .state))) (rw (c .before .before .before .before .before .before .before .before .went-on .ensures, c .before .before .before .before .before .before .before .ready .ensures) at (c .before .before .before .before .before .before .if1 .left))) in
     simp (c .clock-frame .ensures, c .before .load-transmit .ensures, c .before .before .next-frame .ensures, h .0, h .1, c .before .before .before .if2 .left, ← c .before .before .before .before .command-ready .ensures)
 
 pub kick-spec : {M : Type 1} → statement M

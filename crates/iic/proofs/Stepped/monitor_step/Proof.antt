@@ -24,8 +24,8 @@ monitor-from-requires c κs = tt
 with-monitor-wait-requires : tie.Need-with-monitor-wait-requires
 with-monitor-wait-requires c κs = tt
 
-with-core-requires : tie.Need-with-core-requires
-with-core-requires c κs = tt
+fine-requires : tie.Need-fine-requires
+fine-requires c κs = tt
 
 returns : tie.Need-returns
 unfolding monitorStepOf startMonitorOf
@@ -33,11 +33,11 @@ returns c = simp (c .monitor-from .ensures, ← c .before .after .ensures, ← c
 
 returns-2 : tie.Need-returns-2
 unfolding monitorStepOf startMonitorOf
-returns-2 c = simp (c .with-core .ensures, c .before .with-monitor-wait .ensures, c .before .before .if2 .left, finished (c .before .before .before .before .before .args .self .ended) (sym (c .before .before .before .before .went-on .ensures) ∙ c .before .before .before .if1 .taken))
+returns-2 c = simp (c .fine .ensures, c .before .with-monitor-wait .ensures, c .before .before .if2 .left, finished (c .before .before .before .before .before .args .self .ended) (sym (c .before .before .before .before .went-on .ensures) ∙ c .before .before .before .if1 .taken))
 
 returns-3 : tie.Need-returns-3
 unfolding monitorStepOf startMonitorOf
 returns-3 c = simp (stopped (c .before .before .args .self) (monitorStepOf (c .before .before .args .now) (c .before .before .args .clocks)) (sym (c .before .went-on .ensures) ∙ c .if1 .left))
 
 pub monitor-step-spec : {M : Type 1} → statement M
-monitor-step-spec = tie.close (tie.spec went-on-requires monitor-halves-requires cast-halves after-requires monitor-from-requires with-monitor-wait-requires with-core-requires returns returns-2 returns-3)
+monitor-step-spec = tie.close (tie.spec went-on-requires monitor-halves-requires cast-halves after-requires monitor-from-requires with-monitor-wait-requires fine-requires returns returns-2 returns-3)

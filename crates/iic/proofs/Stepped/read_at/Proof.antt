@@ -11,9 +11,6 @@ went-on-requires c κs = tt
 enum-told : tie.Need-enum-told
 enum-told c = search needs
 
-way-write-given-self : tie.Need-way-write-given-self
-way-write-given-self c = search needs
-
 enum-told-2 : tie.Need-enum-told-2
 enum-told-2 c = search needs
 
@@ -45,4 +42,4 @@ returns-4 c =
     sym (stopped (a .self) (readAt (a .register) (a .now) (a .clocks)) (sym (c .before .went-on .ensures) ∙ c .if1 .left))
 
 pub read-at-spec : {M : Type 1} → statement M
-read-at-spec = tie.close (tie.spec went-on-requires enum-told way-write-given-self enum-told-2 read-data-requires returns returns-2 returns-3 returns-4)
+read-at-spec = tie.close (tie.spec went-on-requires enum-told enum-told-2 read-data-requires returns returns-2 returns-3 returns-4)

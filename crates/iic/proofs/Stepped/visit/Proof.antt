@@ -3,7 +3,7 @@ use Rattle.iic.proofs.Laws.{alike, chain, five, held-by, rests}
 use Rattle.iic.specs.Calls.{visitOf}
 use Rattle.iic.specs.Clocking.{fireClockOf, fireFilterOf, fireMonitorOf, fireSetupOf}
 use Rattle.iic.specs.Kick.{kickOf}
-use Rattle.steps.specs.State.{awake}
+use Rattle.iic.specs.State.{awake}
 use Rattle.iic.proofs.Stepped.visit.Statement.{statement}
 use Rattle.iic.proofs.Stepped.visit.Tie as tie
 
@@ -31,7 +31,7 @@ returns c =
     let a = c .before .before .before .before .before .before .before .args in
     five (fireFilterOf (a .now) (a .clocks)) (fireSetupOf (a .now) (a .clocks)) (fireMonitorOf (a .now) (a .clocks)) (fireClockOf (a .now) (a .clocks)) (kickOf (a .now) (a .clocks)) (a .self) _ _ _ _ _
     (c .before .before .before .before .fire-filter .ensures) (c .before .before .before .fire-setup .ensures) (c .before .before .fire-monitor .ensures) (c .before .fire-clock .ensures) (c .kick .ensures)
-    ∙ alike (a .self) (chain (fireFilterOf (a .now) (a .clocks)) (fireSetupOf (a .now) (a .clocks)) (fireMonitorOf (a .now) (a .clocks)) (fireClockOf (a .now) (a .clocks)) (kickOf (a .now) (a .clocks))) (visitOf (a .now) (a .clocks)) (held-by (awake (a .self .state .core)) (sym (c .before .before .before .before .before .before .awake .ensures) ∙ c .before .before .before .before .before .if1 .taken) _ _)
+    ∙ alike (a .self) (chain (fireFilterOf (a .now) (a .clocks)) (fireSetupOf (a .now) (a .clocks)) (fireMonitorOf (a .now) (a .clocks)) (fireClockOf (a .now) (a .clocks)) (kickOf (a .now) (a .clocks))) (visitOf (a .now) (a .clocks)) (held-by (awake (a .self .state)) (sym (c .before .before .before .before .before .before .awake .ensures) ∙ c .before .before .before .before .before .if1 .taken) _ _)
 
 returns-2 : tie.Need-returns-2
 unfolding visitOf

@@ -11,8 +11,8 @@ went-on-requires c κs = tt
 write-plain-requires : tie.Need-write-plain-requires
 write-plain-requires c κs = tt
 
-with-core-requires : tie.Need-with-core-requires
-with-core-requires c κs = tt
+fine-requires : tie.Need-fine-requires
+fine-requires c κs = tt
 
 enum-told : tie.Need-enum-told
 enum-told c = search needs
@@ -39,31 +39,31 @@ returns : tie.Need-returns
 unfolding writeAt
 returns c =
     let a = c .before .before .before .before .before .before .before .args in
-    simp (c .write-control .ensures, c .before .enum-told .given .1, c .before .before .before .with-core .ensures, c .before .before .before .before .write-plain .ensures, finished (a .self .ended) (sym (c .before .before .before .before .before .before .went-on .ensures) ∙ c .before .before .before .before .before .if1 .taken))
+    simp (c .write-control .ensures, c .before .enum-told .given .1, c .before .before .before .fine .ensures, c .before .before .before .before .write-plain .ensures, finished (a .self .ended) (sym (c .before .before .before .before .before .before .went-on .ensures) ∙ c .before .before .before .before .before .if1 .taken))
 
 returns-2 : tie.Need-returns-2
 unfolding writeAt
 returns-2 c =
     let a = c .before .before .before .before .before .before .before .args in
-    simp (c .write-command .ensures, c .before .enum-told2 .given .1, c .before .before .before .with-core .ensures, c .before .before .before .before .write-plain .ensures, finished (a .self .ended) (sym (c .before .before .before .before .before .before .went-on .ensures) ∙ c .before .before .before .before .before .if1 .taken))
+    simp (c .write-command .ensures, c .before .enum-told2 .given .1, c .before .before .before .fine .ensures, c .before .before .before .before .write-plain .ensures, finished (a .self .ended) (sym (c .before .before .before .before .before .before .went-on .ensures) ∙ c .before .before .before .before .before .if1 .taken))
 
 returns-3 : tie.Need-returns-3
 unfolding writeAt
 returns-3 c =
     let a = c .before .before .before .before .before .before .args in
-    simp (c .kick .ensures, c .before .before .with-core .ensures, c .before .before .before .write-plain .ensures, finished (a .self .ended) (sym (c .before .before .before .before .before .went-on .ensures) ∙ c .before .before .before .before .if1 .taken), kicking (a .register) (c .before .match .keys3) (a .value) (a .now) (a .clocks) (a .self .state))
+    simp (c .kick .ensures, c .before .before .fine .ensures, c .before .before .before .write-plain .ensures, finished (a .self .ended) (sym (c .before .before .before .before .before .went-on .ensures) ∙ c .before .before .before .before .if1 .taken), kicking (a .register) (c .before .match .keys3) (a .value) (a .now) (a .clocks) (a .self .state))
 
 returns-4 : tie.Need-returns-4
 unfolding writeAt
 returns-4 c =
     let a = c .before .before .before .before .before .before .before .args in
-    simp (c .write-data .ensures, c .before .enum-told3 .given .1, c .before .before .before .with-core .ensures, c .before .before .before .before .write-plain .ensures, finished (a .self .ended) (sym (c .before .before .before .before .before .before .went-on .ensures) ∙ c .before .before .before .before .before .if1 .taken))
+    simp (c .write-data .ensures, c .before .enum-told3 .given .1, c .before .before .before .fine .ensures, c .before .before .before .before .write-plain .ensures, finished (a .self .ended) (sym (c .before .before .before .before .before .before .went-on .ensures) ∙ c .before .before .before .before .before .if1 .taken))
 
 returns-5 : tie.Need-returns-5
 unfolding writeAt
 returns-5 c =
     let a = c .before .before .before .before .before .args in
-    simp (c .before .with-core .ensures, c .before .before .write-plain .ensures, finished (a .self .ended) (sym (c .before .before .before .before .went-on .ensures) ∙ c .before .before .before .if1 .taken), silent (a .register) (c .match .keys5) (a .value) (a .now) (a .clocks) (a .self .state))
+    simp (c .before .fine .ensures, c .before .before .write-plain .ensures, finished (a .self .ended) (sym (c .before .before .before .before .went-on .ensures) ∙ c .before .before .before .if1 .taken), silent (a .register) (c .match .keys5) (a .value) (a .now) (a .clocks) (a .self .state))
 
 returns-6 : tie.Need-returns-6
 unfolding writeAt
@@ -72,4 +72,4 @@ returns-6 c =
     sym (stopped (a .self) (writeAt (a .register) (a .value) (a .now) (a .clocks)) (sym (c .before .went-on .ensures) ∙ c .if1 .left))
 
 pub write-at-spec : {M : Type 1} → statement M
-write-at-spec = tie.close (tie.spec went-on-requires write-plain-requires with-core-requires enum-told write-control-requires enum-told-2 write-command-requires kick-requires enum-told-3 write-data-requires returns returns-2 returns-3 returns-4 returns-5 returns-6)
+write-at-spec = tie.close (tie.spec went-on-requires write-plain-requires fine-requires enum-told write-control-requires enum-told-2 write-command-requires kick-requires enum-told-3 write-data-requires returns returns-2 returns-3 returns-4 returns-5 returns-6)

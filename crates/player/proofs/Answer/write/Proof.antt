@@ -19,7 +19,7 @@ returns : tie.Need-returns
 unfolding textOf
 returns c =
     let a = c .before .before .before .before .before .before .before .before .args in
-    put-as (ap (λ (p : Pins). answerText (a .number) (a .self .refusal) (a .self .value) p (a .self .host .state .core .registers .status)) (c .before .before .before .pins .ensures)) (c .before .before .write-line .ensures)
+    put-as (ap (λ (p : Pins). answerText (a .number) (a .self .refusal) (a .self .value) p (a .self .host .state .registers .status)) (c .before .before .before .pins .ensures)) (c .before .before .write-line .ensures)
 
 pub write-spec : {M : Type 1} → statement M
 write-spec = tie.close (tie.spec pins-requires write-line-requires same-length returns)
