@@ -228,6 +228,7 @@ mod tests {
             match kind {
                 Kind::Time => out.copy_from_slice(&time),
                 Kind::Tap => out.copy_from_slice(&tap),
+                Kind::Domain => out.copy_from_slice(layout::domain(&set_near_a_row(random), 0)),
                 Kind::Wait => {
                     let state = random.pick(&[[0, count, 0], [1, count, 0], [2, time[0], time[1]]]);
                     out.copy_from_slice(&[&tap[..], &state].concat());

@@ -51,6 +51,13 @@ pub(crate) fn domain_ticks(words: &[u64], now: Time) -> Option<u64> {
     domain(words).map(|d| d.ticks(now))
 }
 
+/// A set of that domain alone, in the place of each: half counts and half edges look at the system domain.
+pub(crate) fn set_of(words: &[u64]) -> Option<Clocks> {
+    let mut of = [0; layout::SET];
+    of[..layout::AT_S].chunks_mut(layout::DOMAIN).for_each(|domain| domain.copy_from_slice(&words[..layout::DOMAIN]));
+    set(&of)
+}
+
 /// Anchor, phase and running lie before the stages; the Rust has its flag behind them.
 fn prescaler<const N: usize>(words: &[u64]) -> Prescaler<N> {
     let mut order = [0; layout::PRESCALER_S];

@@ -17,17 +17,17 @@ pub(crate) fn call(number: u64, set: &[u64; 69], args: &[u64; 24], out: &mut [u6
     let wait = wait_at(args);
     let clocks = clocks_of(set);
     match number {
-        38 => put_made(
+        40 => put_made(
             ClockWait::after(time_at(args, 2), args[4], tap_at(args, 0), clocks),
             out,
         ),
-        39 => put_deadline(wait.deadline(clocks), out),
-        40 => put_waited(wait.pause(time_at(args, 5), clocks), out),
-        41 => put_waited(wait.resume(time_at(args, 5), clocks), out),
-        42 => put_refusal(wait.validate(), out),
-        43 => put_bool(wait.uses(tap_at(args, 5)), out),
-        44 => put_deadline(wait.later_edge(args[5], clocks), out),
-        45 => put_count(wait.edges_before(time_at(args, 5), clocks), out),
+        41 => put_deadline(wait.deadline(clocks), out),
+        42 => put_waited(wait.pause(time_at(args, 5), clocks), out),
+        43 => put_waited(wait.resume(time_at(args, 5), clocks), out),
+        44 => put_refusal(wait.validate(), out),
+        45 => put_bool(wait.uses(tap_at(args, 5)), out),
+        46 => put_deadline(wait.later_edge(args[5], clocks), out),
+        47 => put_count(wait.edges_before(time_at(args, 5), clocks), out),
         _ => put_waited(wait.select(time_at(args, 7), tap_at(args, 5), clocks), out),
     }
 }

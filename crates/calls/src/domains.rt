@@ -12,7 +12,9 @@ pub(crate) fn call(number: u64, args: &[u64; 24], out: &mut [u64; 70]) {
     match number {
         18 => put_made(Domain::new(time_at(args, 0), args[2], args[3]), out),
         19 => put_moment(domain_at(args).time(time_at(args, 7)), out),
-        _ => put_count(domain_at(args).ticks(time_at(args, 7)), out),
+        20 => put_count(domain_at(args).ticks(time_at(args, 7)), out),
+        21 => put_count(domain_at(args).half_ticks(time_at(args, 7)), out),
+        _ => put_moment(domain_at(args).half_edge(args[7]), out),
     }
 }
 

@@ -29,15 +29,15 @@ pub fn call(number: u64, set: &[u64; 69], args: &[u64; 24], out: &mut [u64; 70])
         prescalers::call(number, args, out);
         return;
     }
-    if number < 21 {
+    if number < 23 {
         domains::call(number, args, out);
         return;
     }
-    if number < 30 {
+    if number < 32 {
         taps::call(number, args, out);
         return;
     }
-    if number < 38 {
+    if number < 40 {
         sets::call(number, set, args, out);
         return;
     }

@@ -17,16 +17,16 @@ use time::Time;
 pub(crate) fn call(number: u64, set: &[u64; 69], args: &[u64; 24], out: &mut [u64; 70]) {
     let clocks = clocks_of(set);
     match number {
-        30 => put_bool(clocks.has_zero(), out),
-        31 => put_count(clocks.ticks(time_at(args, 2), tap_at(args, 0)), out),
-        32 => put_moment(clocks.edge(args[2], tap_at(args, 0)), out),
-        33 => put_moment(
+        32 => put_bool(clocks.has_zero(), out),
+        33 => put_count(clocks.ticks(time_at(args, 2), tap_at(args, 0)), out),
+        34 => put_moment(clocks.edge(args[2], tap_at(args, 0)), out),
+        35 => put_moment(
             clocks.after(time_at(args, 2), args[4], tap_at(args, 0)),
             out,
         ),
-        34 => put_truth(clocks.available(tap_at(args, 0)), out),
-        35 => put_truth(clocks.high(time_at(args, 2), tap_at(args, 0)), out),
-        36 => put_count(clocks.system_half_ticks(time_at(args, 0)), out),
+        36 => put_truth(clocks.available(tap_at(args, 0)), out),
+        37 => put_truth(clocks.high(time_at(args, 2), tap_at(args, 0)), out),
+        38 => put_count(clocks.system_half_ticks(time_at(args, 0)), out),
         _ => put_moment(clocks.system_half_edge(args[0]), out),
     }
 }

@@ -12,14 +12,14 @@ use clocks::tap::Tap;
 
 pub(crate) fn call(number: u64, args: &[u64; 24], out: &mut [u64; 70]) {
     match number {
-        21 => put_tap(Tap::cpu(), out),
-        22 => put_tap(Tap::system(half_word(args[0])), out),
-        23 => put_tap(Tap::watch(half_word(args[0])), out),
-        24 => put_tap(Tap::on_chip(half_word(args[0])), out),
-        25 => put_tap(Tap::oscillator(), out),
-        26 => put_tap(Tap::subclock(), out),
-        27 => put_refusal(tap_at(args, 0).validate(), out),
-        28 => put_frequencies(Frequencies::default(), out),
+        23 => put_tap(Tap::cpu(), out),
+        24 => put_tap(Tap::system(half_word(args[0])), out),
+        25 => put_tap(Tap::watch(half_word(args[0])), out),
+        26 => put_tap(Tap::on_chip(half_word(args[0])), out),
+        27 => put_tap(Tap::oscillator(), out),
+        28 => put_tap(Tap::subclock(), out),
+        29 => put_refusal(tap_at(args, 0).validate(), out),
+        30 => put_frequencies(Frequencies::default(), out),
         _ => put_made(Clocks::new(time_at(args, 0), frequencies_at(args)), out),
     }
 }

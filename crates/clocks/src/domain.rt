@@ -151,7 +151,8 @@ impl Domain {
         }
     }
 
-    pub(crate) fn half_ticks(self, now: Time) -> Count
+    // The half count: twice the count, and one more while the clock isn't high.
+    pub fn half_ticks(self, now: Time) -> Count
         ensures { λ r. ⌜ r ≡ domainHalfTicks self now ⌝ }
     {
         match self.ticks(now) {
@@ -160,7 +161,8 @@ impl Domain {
         }
     }
 
-    pub(crate) fn half_edge(self, tick: u64) -> Moment
+    // The half edge of that number.
+    pub fn half_edge(self, tick: u64) -> Moment
         ensures { λ r. ⌜ r ≡ domainHalfEdge self tick ⌝ }
     {
         match self.clock.after(tick / 2) {

@@ -22,20 +22,20 @@ const GOES_ON: &[Ends] = &[[DONE, BELOW_ZERO, DONE]];
 const ROWS: &[Row<Call, Condition>] = &[
     Row {
         name: "level_before_the_start",
-        calls: &[Call::ClocksHigh, Call::HalfTicks],
+        calls: &[Call::ClocksHigh, Call::HalfTicks, Call::DomainHalfTicks],
         ends: GOES_ON,
         like: Like::Plain,
         when: |call, handed| {
-            let (tap, now) = level_asked(call, handed);
-            before_start(domain_of(handed.words, &tap), now)
+            let (domain, now) = level_asked(call, handed);
+            before_start(domain, now)
         },
     },
     Row {
         name: "level_of_a_clock_held_before_its_start",
-        calls: &[Call::ClocksHigh, Call::HalfTicks],
+        calls: &[Call::ClocksHigh, Call::HalfTicks, Call::DomainHalfTicks],
         ends: GOES_ON,
         like: Like::Plain,
-        when: |call, handed| held_before_start(domain_of(handed.words, &level_asked(call, handed).0)),
+        when: |call, handed| held_before_start(level_asked(call, handed).0),
     },
     Row {
         name: "high_at_the_last_count",
@@ -103,12 +103,13 @@ pub fn parting(call: Call, handed: &Handed, plain: End, checked: End) -> Option<
     ROWS.iter().find_map(|row| row.parting(call, plain, checked).filter(|_| (row.when)(call, handed)))
 }
 
-/// The tap whose level is asked for, and the time. The half counts ask for that of the system clock.
-fn level_asked(call: Call, handed: &Handed) -> ([u64; layout::TAP], u128) {
+/// The domain whose level is asked for, and the time. The half counts of a set ask for that of the system clock.
+fn level_asked<'a>(call: Call, handed: &Handed<'a>) -> (&'a [u64], u128) {
     let args = handed.args;
     match call {
-        Call::HalfTicks => ([0, 1], layout::time_at(args, 0)),
-        _ => ([args[0], args[1]], layout::time_at(args, layout::TAP)),
+        Call::DomainHalfTicks => (&args[..layout::DOMAIN], layout::time_at(args, layout::DOMAIN)),
+        Call::HalfTicks => (domain_of(handed.words, &[0, 1]), layout::time_at(args, 0)),
+        _ => (domain_of(handed.words, args), layout::time_at(args, layout::TAP)),
     }
 }
 

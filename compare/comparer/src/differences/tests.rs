@@ -77,13 +77,19 @@ fn held_early() -> Set {
     set
 }
 
+/// The half count of a set, and that of its system domain alone.
+fn check_half_ticks(row: &'static str, set: &Set, now: [u64; 2], expected: [&str; 3]) {
+    check(row, Call::HalfTicks, set, &now, expected);
+    check(row, Call::DomainHalfTicks, set, &[layout::domain(set, 0), &now].concat(), expected);
+}
+
 #[test]
 fn level_before_the_start() {
     const ROW: &str = "level_before_the_start";
     let set = plain_set(1, DEFAULT);
     check(ROW, Call::ClocksHigh, &set, &[0, 1, 0, 0], ["answered [0]", BELOW_ZERO, "answered [0]"]);
-    check(ROW, Call::HalfTicks, &set, &[0, 0], ["answered [1]", BELOW_ZERO, "answered [1]"]);
-    check(ROW, Call::HalfTicks, &set, &[0, 1], ["answered [0]"; 3]);
+    check_half_ticks(ROW, &set, [0, 0], ["answered [1]", BELOW_ZERO, "answered [1]"]);
+    check_half_ticks(ROW, &set, [0, 1], ["answered [0]"; 3]);
 }
 
 #[test]
@@ -91,7 +97,7 @@ fn high_at_the_last_count() {
     const ROW: &str = "high_at_the_last_count";
     let set = plain_set(0, FASTEST);
     check(ROW, Call::ClocksHigh, &set, &[0, 1, 1, 0], ["answered [1]", TOO_LARGE, "7"]);
-    check(ROW, Call::HalfTicks, &set, &[1, 0], ["7"; 3]);
+    check_half_ticks(ROW, &set, [1, 0], ["7"; 3]);
 }
 
 #[test]
@@ -139,12 +145,12 @@ fn level_of_a_clock_held_before_its_start() {
     const ROW: &str = "level_of_a_clock_held_before_its_start";
     for now in [0, 1, TOP] {
         check(ROW, Call::ClocksHigh, &held_early(), &[0, 1, 0, now], ["answered [0]", BELOW_ZERO, "answered [0]"]);
-        check(ROW, Call::HalfTicks, &held_early(), &[0, now], ["answered [1]", BELOW_ZERO, "answered [1]"]);
+        check_half_ticks(ROW, &held_early(), [0, now], ["answered [1]", BELOW_ZERO, "answered [1]"]);
     }
     // Held at its start.
     let mut set = held_early();
     set[6] = 1;
-    check(ROW, Call::HalfTicks, &set, &[0, 0], ["answered [0]"; 3]);
+    check_half_ticks(ROW, &set, [0, 0], ["answered [0]"; 3]);
 }
 
 /// At the second edge of the system clock the sum is 2^64, which wraps to 0; at the fourth it wraps to 1.

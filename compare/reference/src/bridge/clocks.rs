@@ -13,6 +13,8 @@ pub fn plain(call: Call, args: &Args, out: &mut [u64]) -> Result<(), Error> {
         Call::DomainNew => inside::domain_new(inside::time(args, 0), args[2], args[3], out)?,
         Call::DomainTime => put_time(inside::domain_time(args, now(args)).ok_or(TimeError::ZeroFrequency)?, out),
         Call::DomainTicks => out[0] = inside::domain_ticks(args, now(args)).ok_or(TimeError::ZeroFrequency)?,
+        Call::DomainHalfTicks => out[0] = set_of(args)?.system_half_ticks(now(args))?,
+        Call::DomainHalfEdge => put_time(set_of(args)?.system_half_edge(args[layout::DOMAIN])?, out),
         Call::TapCpu => put(&Tap::cpu(), out),
         Call::TapSystem => put(&Tap::system(args[0] as u32), out),
         Call::TapWatch => put(&Tap::watch(args[0] as u32), out),
@@ -69,6 +71,10 @@ pub fn over_set(call: Call, set: &Clocks, args: &Args, out: &mut [u64]) -> Resul
         _ => return wait::answer(call, set, args, out),
     }
     Ok(())
+}
+
+fn set_of(args: &Args) -> Result<Clocks, Error> {
+    Ok(inside::set_of(args).ok_or(TimeError::ZeroFrequency)?)
 }
 
 /// The function is private; a prescaler that has counted nothing and starts at 0 counts just the crossings.
