@@ -1,12 +1,13 @@
 -- Laws of counts of 64 bits and of the stages of a prescaler. Assumes nothing.
 use mathlib.Core.Path.{_≡_, refl, sym, ap, _∙_, subst}
-use mathlib.Core.Bool.{Bool, true, false, not, _||_, _&&_, cond}
+use mathlib.Core.Bool.{Bool, true, false, not, _||_, cond}
 use Prim.Native.Nat.{ℕ, suc, _+_, _-_, _*_, _/_, _%_, _^_, _≤_, _<_}
 use native.Mathlib.Nat.{add-comm, add-mul-div-right, div-add-mod', div-lt-iff-lt-mul, le-div-iff-mul-le, le-of-suc-le-suc, mul-le-mul-left, mul-one, mul-zero, one-mul, pos-of-ne-zero, suc-mul}
 use native.Mathlib.Omega.{arith}
 use borrow.Author.Tests.{eqb-false, le-ltb, leb-true, lt-ltb, ltb-false}
 use lib.Dec.{eqb, leb, lit<, ltb}
 use lib.Pow.{pow-mono, pow-pos, shl-exact}
+use Rattle.time.specs.Truths.{and-left, and-right, or-left, or-right}
 use Rattle.time.specs.declared.Count.the-variants.{Of, Refused}
 use Rattle.clocks.specs.Counts.{fits}
 use Rattle.clocks.specs.Prescaler.{outside}
@@ -31,23 +32,14 @@ module _ (a b m : ℕ) (pos : 0 < b) where
   pub product-gt : m / b < a → m < a * b
   product-gt h = div-lt-iff-lt-mul {k = b} {x = m} {y = a} pos .0 h
 
-neither : (a b : Bool) → a || b ≡ false → (a ≡ false) × (b ≡ false)
-neither true b e = absurd (let z : _≡_ {A = ℕ} 0 1 = cc in omega arith)
-neither false b e = (refl, e)
-
-both : (a b : Bool) → a && b ≡ true → (a ≡ true) × (b ≡ true)
-both true b e = (refl, e)
-both false b e = absurd (let z : _≡_ {A = ℕ} 0 1 = cc in omega arith)
-
 -- a stage that isn't outside 1 to n
 pub inside : (n s : ℕ) → outside n s ≡ false → (0 < s) × (s ≤ n)
 inside n s e =
-    let each = neither (eqb s 0) (ltb n s) e in
-    (pos-of-ne-zero (eqb-false s 0 (each .0)), ltb-false n s (each .1))
+    (pos-of-ne-zero (eqb-false s 0 (or-left (eqb s 0) (ltb n s) e)), ltb-false n s (or-right (eqb s 0) (ltb n s) e))
 
 -- a number within a to b
 pub between : (a b n : ℕ) → within a b n ≡ true → (a ≤ n) × (n ≤ b)
-between a b n e = let each = both (leb a n) (leb n b) e in (leb-true a n (each .0), leb-true n b (each .1))
+between a b n e = (leb-true a n (and-left (leb a n) (leb n b) e), leb-true n b (and-right (leb a n) (leb n b) e))
 
 -- one shifted left, at 64 bits
 pub one-shl : (s : ℕ) → s < 64 → (1 * 2 ^ s) % 2 ^ 64 ≡ 2 ^ s

@@ -5,3 +5,5 @@ pub mod Tap
 pub mod Clocks
 pub mod Half
 pub mod Wait
+pub mod System
+pub mod SystemLaws

@@ -9,6 +9,7 @@ pub mod counts;
 pub mod domain;
 pub mod later;
 pub mod prescaler;
+pub mod system;
 pub mod tap;
 pub mod wait;
 

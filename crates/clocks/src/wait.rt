@@ -57,7 +57,7 @@ pub fn dated(edge: Moment) -> Deadline
 
 impl ClockWait {
     // The wait, unless its deadline is refused.
-    fn started_by(self, deadline: Deadline) -> NewWait
+    pub(crate) fn started_by(self, deadline: Deadline) -> NewWait
         ensures { λ r. ⌜ r ≡ startedBy self deadline ⌝ }
     {
         match deadline {
@@ -68,7 +68,7 @@ impl ClockWait {
     }
 
     // A running wait to the edge of that number.
-    fn running_to(tap: Tap, target: u64) -> ClockWait
+    pub(crate) fn running_to(tap: Tap, target: u64) -> ClockWait
         ensures { λ r. ⌜ r ≡ waitOf tap (Running target) ⌝ }
     {
         ClockWait {

@@ -10,6 +10,9 @@ use Rattle.bus.specs.declared.Levels.{Levels}
 use Rattle.bus.specs.Bus.{sameLevels, levels}
 use Rattle.time.specs.declared.Time.{Time}
 use Rattle.clocks.specs.declared.Clocks.{Clocks}
+use Rattle.clocks.specs.declared.domain.Domain.{Domain}
+use Rattle.clocks.specs.declared.wait.Deadline.{Deadline}
+use Rattle.clocks.specs.Clocks.{hasZero}
 use Rattle.iic.specs.declared.Iic.{Iic}
 use Rattle.iic.specs.declared.Ended.{Ended}
 use Rattle.iic.specs.declared.Ended.the-variants.{Finished, Refused}
@@ -20,21 +23,22 @@ use Rattle.waits.specs.declared.MaybeWait.the-variants.{NoWait}
 use Rattle.waits.specs.declared.MaybeHalf.the-variants.{NoHalf}
 use Rattle.iic.specs.declared.Register.{Register}
 use Rattle.iic.specs.declared.Register.the-variants.{ICCR1, ICCR2, ICMR, ICIER, ICSR, SAR, ICDRT, ICDRR}
-use Rattle.iic.specs.Registers.{registerAt}
-use Rattle.iic.specs.Access.{readAt}
+use Rattle.iic.specs.Reading.{registerAt}
+use Rattle.iic.specs.Reading.{readAt}
 use Rattle.iic.specs.Answers.{fine, goOn, andThen, guarded}
-use Rattle.iic.specs.Calls.{guardOf, takePinsOf, turnGateOf, visitOf, readOf, inputPinsOf, setGateOf, advanceOf}
+use Rattle.iic.specs.Calls.{guardBy, takePinsOf, turnGateOf, visitOf, readOf, inputPinsOf, setGateOf, advanceOf}
 use Rattle.iic.specs.Clocking.{firing, filterFiresOf, stretchOf, clockStepOf, fireFilterOf, fireSetupOf, fireMonitorOf, fireClockOf}
 use Rattle.iic.specs.Kick.{kickOf}
 use Rattle.iic.specs.Setters.{setClockWait, setMonitorWait, setSetupWait}
 use Rattle.iic.specs.State.{defaultIic, awake, driveScl}
 use Rattle.waits.specs.Ends.{waitEnd, halfEnd, dueOf}
-use Rattle.hosts.specs.Calls.{Call, peek, read, write, inputPins, setGate, deadline, advance, pins, interrupt, interruptWithEnable, validate, Made, callOf, isRefusal, outcomeOf, Host, start, after, afterAll, hostWith, isNow, anyDue, idleRead, idle}
+use Rattle.hosts.specs.Calls.{Call, peek, read, write, inputPins, setGate, deadline, advance, pins, interrupt, interruptWithEnable, validate, Made, callOf, isRefusal, outcomeOf, Host, start, after, afterAll, hostWith, isNow, waitsDue, anyDue, idleRead, idle}
 use Rattle.hosts.specs.Demand3.{Left, played, left, leftOf, calls, IsKth, before, anyRefused, TwoHostsAgree}
-use Rattle.hosts.specs.Invariant.{settled, Good}
+use Rattle.hosts.specs.Invariant.{Good}
+use Rattle.iic.specs.Settled.{settled}
 use Rattle.hosts.specs.Kept.{good-after}
-use Rattle.hosts.specs.Kicked.{settled-kick}
-use Rattle.hosts.specs.Truths.{and-left, and-right, or-left, or-right, not-so}
+use Rattle.iic.specs.SettledLaws.{settled-kick}
+use Rattle.time.specs.Truths.{and-left, and-right, or-left, or-right, not-so}
 
 -- ## An idle call leaves the host as it is
 
@@ -55,46 +59,48 @@ undue due.Now s o e = absurd (true≢false e)
 undue due.NotNow s o e = refl
 undue (due.Refused n) s o e = refl
 
-filter-undue : (now : Time) (k : Clocks) (s : Iic) → isNow (dueOf (waitEnd (s .«filter_wait») k) now) ≡ false → fireFilterOf now k s .state ≡ s
+filter-undue : (end : Deadline) (now : Time) (k : Domain) (s : Iic) → isNow (dueOf end now) ≡ false → fireFilterOf end now k s .state ≡ s
 unfolding fireFilterOf
-filter-undue now k s e = undue (dueOf (waitEnd (s .«filter_wait») k) now) s (filterFiresOf now k s) e
+filter-undue end now k s e = undue (dueOf end now) s (filterFiresOf now k s) e
 
-setup-undue : (now : Time) (k : Clocks) (s : Iic) → isNow (dueOf (waitEnd (s .«setup_wait») k) now) ≡ false → fireSetupOf now k s .state ≡ s
+setup-undue : (end : Deadline) (now : Time) (s : Iic) → isNow (dueOf end now) ≡ false → fireSetupOf end now s .state ≡ s
 unfolding fireSetupOf
-setup-undue now k s e = undue (dueOf (waitEnd (s .«setup_wait») k) now) s (fine (setSetupWait NoWait (driveScl true s))) e
+setup-undue end now s e = undue (dueOf end now) s (fine (setSetupWait NoWait (driveScl true s))) e
 
-monitor-undue : (now : Time) (k : Clocks) (s : Iic) → isNow (dueOf (halfEnd (s .«monitor_wait») k) now) ≡ false → fireMonitorOf now k s .state ≡ s
+monitor-undue : (now : Time) (k : Domain) (s : Iic) → isNow (dueOf (halfEnd (s .«monitor_wait») k) now) ≡ false → fireMonitorOf now k s .state ≡ s
 unfolding fireMonitorOf
 monitor-undue now k s e = undue (dueOf (halfEnd (s .«monitor_wait») k) now) s (stretchOf now k (setMonitorWait NoHalf s)) e
 
-clock-undue : (now : Time) (k : Clocks) (s : Iic) → isNow (dueOf (halfEnd (s .«clock_wait») k) now) ≡ false → fireClockOf now k s .state ≡ s
+clock-undue : (now : Time) (k : Domain) (s : Iic) → isNow (dueOf (halfEnd (s .«clock_wait») k) now) ≡ false → fireClockOf now k s .state ≡ s
 unfolding fireClockOf
 clock-undue now k s e = undue (dueOf (halfEnd (s .«clock_wait») k) now) s (clockStepOf now k (setClockWait NoHalf s)) e
 
-undue-visit : (now : Time) (k : Clocks) (s : Iic) (b : Bool) → awake s ≡ b → settled s ≡ true → anyDue k now s ≡ false → visitOf now k s .state ≡ s
-unfolding visitOf anyDue
+undue-visit : (now : Time) (k : Clocks) (s : Iic) (b : Bool) → awake s ≡ b → settled s ≡ true → waitsDue k now s ≡ false → visitOf now k s .state ≡ s
+unfolding visitOf
 undue-visit now k s false e h d = rw e
 undue-visit now k s true e h d =
     let filter : Bool = isNow (dueOf (waitEnd (s .«filter_wait») k) now) in
     let setup : Bool = isNow (dueOf (waitEnd (s .«setup_wait») k) now) in
-    let monitor : Bool = isNow (dueOf (halfEnd (s .«monitor_wait») k) now) in
-    let clock : Bool = isNow (dueOf (halfEnd (s .«clock_wait») k) now) in
+    let monitor : Bool = isNow (dueOf (halfEnd (s .«monitor_wait») (k .system)) now) in
+    let clock : Bool = isNow (dueOf (halfEnd (s .«clock_wait») (k .system)) now) in
     let d3 : (filter || setup || monitor) ≡ false = or-left (filter || setup || monitor) clock d in
     let d2 : (filter || setup) ≡ false = or-left (filter || setup) monitor d3 in
-    let o1 : Stepped = fireFilterOf now k s in
-    let o2 : Stepped = andThen o1 (fireSetupOf now k) in
-    let o3 : Stepped = andThen o2 (fireMonitorOf now k) in
-    let o4 : Stepped = andThen o3 (fireClockOf now k) in
+    let fires : Iic → Stepped = λ (u : Iic). fireSetupOf (waitEnd (u .«setup_wait») k) now u in
+    let o1 : Stepped = fireFilterOf (waitEnd (s .«filter_wait») k) now (k .system) s in
+    let o2 : Stepped = andThen o1 fires in
+    let o3 : Stepped = andThen o2 (fireMonitorOf now (k .system)) in
+    let o4 : Stepped = andThen o3 (fireClockOf now (k .system)) in
     rw e
-    (then-same s o4 (kickOf now k)
-    (then-same s o3 (fireClockOf now k)
-    (then-same s o2 (fireMonitorOf now k)
-    (then-same s o1 (fireSetupOf now k) (filter-undue now k s (or-left filter setup d2)) (setup-undue now k s (or-right filter setup d2)))
-    (monitor-undue now k s (or-right (filter || setup) monitor d3)))
-    (clock-undue now k s (or-right (filter || setup || monitor) clock d)))
-    (ap (λ (o : Stepped). o .state) (settled-kick now k s h)))
+    (then-same s o4 (kickOf now (k .system))
+    (then-same s o3 (fireClockOf now (k .system))
+    (then-same s o2 (fireMonitorOf now (k .system))
+    (then-same s o1 fires (filter-undue (waitEnd (s .«filter_wait») k) now (k .system) s (or-left filter setup d2))
+    (setup-undue (waitEnd (s .«setup_wait») k) now s (or-right filter setup d2)))
+    (monitor-undue now (k .system) s (or-right (filter || setup) monitor d3)))
+    (clock-undue now (k .system) s (or-right (filter || setup || monitor) clock d)))
+    (ap (λ (o : Stepped). o .state) (settled-kick now (k .system) s h)))
 
-read-same : (r : Register) (now : Time) (k : Clocks) (s : Iic) → idleRead r ≡ true → readAt r now k s .state ≡ s
+read-same : (r : Register) (now : Time) (k : Domain) (s : Iic) → idleRead r ≡ true → readAt r now k s .state ≡ s
 unfolding readAt
 read-same ICCR1 now k s e = refl
 read-same ICCR2 now k s e = refl
@@ -105,7 +111,7 @@ read-same SAR now k s e = refl
 read-same ICDRT now k s e = refl
 read-same ICDRR now k s e = absurd (false≢true e)
 
-pins-same : (given : Levels) (now : Time) (k : Clocks) (s : Iic) → sameLevels (s .lines .raw) given ≡ true → takePinsOf given now k s .state ≡ s
+pins-same : (given : Levels) (now : Time) (k : Domain) (s : Iic) → sameLevels (s .lines .raw) given ≡ true → takePinsOf given now k s .state ≡ s
 unfolding takePinsOf
 pins-same given now k s e = rw e
 
@@ -114,17 +120,24 @@ unfolding turnGateOf
 gate-same gate now k s e = rw e
 
 -- a call behind the refusals that stand first
-behind : (k : Clocks) (s : Iic) (o : Stepped) → o .state ≡ s → guarded (guardOf s k) s o .state ≡ s
-behind k s o h = guarded-same (guardOf s k) s o (eqb (guardOf s k) 0) refl h
+behind : (k : Clocks) (s : Iic) (o : Stepped) → o .state ≡ s → guarded (guardBy (hasZero k) s) s o .state ≡ s
+behind k s o h = guarded-same (guardBy (hasZero k) s) s o (eqb (guardBy (hasZero k) s) 0) refl h
+
+-- where a clock of the set holds a zero the visit is refused before it looks at a wait
+visit-same : (now : Time) (k : Clocks) (s : Iic) (z : Bool) → hasZero k ≡ z → settled s ≡ true → anyDue k now s ≡ false
+    → guarded (guardBy (hasZero k) s) s (visitOf now k s) .state ≡ s
+unfolding anyDue
+visit-same now k s true e h d = rw e refl
+visit-same now k s false e h d = behind k s (visitOf now k s) (undue-visit now k s _ refl h (rw e at d))
 
 idle-same : (k : Clocks) (x : Call) (h : Host) → Good h → idle k x h ≡ true → after k x h ≡ h
 unfolding idle after outcomeOf readOf inputPinsOf setGateOf advanceOf
 idle-same k (peek a) h g i = refl
 idle-same k (read a now) h g i =
-    ap (hostWith (read a now) h) (behind k (h .state) (readAt (registerAt a) now k (h .state)) (read-same (registerAt a) now k (h .state) i))
+    ap (hostWith (read a now) h) (behind k (h .state) (readAt (registerAt a) now (k .system) (h .state)) (read-same (registerAt a) now (k .system) (h .state) i))
 idle-same k (write a value now) h g i = absurd (false≢true i)
 idle-same k (inputPins scl sda now) h g i =
-    ap (hostWith (inputPins scl sda now) h) (behind k (h .state) (takePinsOf (levels scl sda) now k (h .state)) (pins-same (levels scl sda) now k (h .state) i))
+    ap (hostWith (inputPins scl sda now) h) (behind k (h .state) (takePinsOf (levels scl sda) now (k .system) (h .state)) (pins-same (levels scl sda) now (k .system) (h .state) i))
 idle-same k (setGate gate now) h g i =
     ap (hostWith (setGate gate now) h) (behind k (h .state) (turnGateOf gate now k (h .state)) (gate-same gate now k (h .state) i))
 idle-same k deadline h g i = refl
@@ -132,8 +145,8 @@ idle-same k (advance now) h g i =
     let both : (not (h .lifted) && not (anyDue k now (h .state))) ≡ true = and-left _ _ i in
     let rested : h .lifted ≡ false = not-so (h .lifted) (and-left _ _ both) in
     let none : anyDue k now (h .state) ≡ false = not-so _ (and-right (not (h .lifted)) _ both) in
-    let kept : guarded (guardOf (h .state) k) (h .state) (visitOf now k (h .state)) .state ≡ h .state =
-    behind k (h .state) (visitOf now k (h .state)) (undue-visit now k (h .state) _ refl (g rested) none) in
+    let kept : guarded (guardBy (hasZero k) (h .state)) (h .state) (visitOf now k (h .state)) .state ≡ h .state =
+    visit-same now k (h .state) _ refl (g rested) none in
     ap₂ (λ (s : Iic) (b : Bool). record { state = s; lifted = b }) kept (sym rested)
 idle-same k pins h g i = refl
 idle-same k interrupt h g i = refl

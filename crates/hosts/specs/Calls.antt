@@ -7,6 +7,7 @@ use Rattle.bus.specs.declared.Levels.{Levels}
 use Rattle.bus.specs.Bus.{sameLevels, levels}
 use Rattle.time.specs.declared.Time.{Time}
 use Rattle.clocks.specs.declared.Clocks.{Clocks}
+use Rattle.clocks.specs.Clocks.{hasZero}
 use Rattle.clocks.specs.declared.Truth.{Truth}
 use Rattle.clocks.specs.declared.Truth.the-variants.{Is as Told, Refused as Untold}
 use Rattle.clocks.specs.declared.wait.Deadline.{Deadline}
@@ -22,7 +23,7 @@ use Rattle.waits.specs.declared.Due.{Due}
 use Rattle.waits.specs.declared.Due.the-variants.{Now, NotNow, Refused as Unknown}
 use Rattle.iic.specs.declared.Register.{Register}
 use Rattle.iic.specs.declared.Register.the-variants.{ICCR1, ICCR2, ICMR, ICIER, ICSR, SAR, ICDRT, ICDRR}
-use Rattle.iic.specs.Registers.{registerAt}
+use Rattle.iic.specs.Reading.{registerAt}
 use Rattle.iic.specs.Calls.{peekOf, readOf, writeOf, inputPinsOf, setGateOf, deadlineOf, advanceOf, pinsOf, interruptWithEnableOf, validateOf}
 use Rattle.iic.specs.State.{defaultIic, framed}
 use Rattle.waits.specs.Ends.{waitEnd, halfEnd, dueOf}
@@ -177,12 +178,16 @@ isNow NotNow = false
 isNow (Unknown n) = false
 
 -- one of the four waits is due: filter, setup, monitor, clock
-unfoldable pub anyDue : Clocks → Time → Iic → Bool
-anyDue k now s =
+abbrev pub waitsDue : Clocks → Time → Iic → Bool
+waitsDue k now s =
     isNow (dueOf (waitEnd (s .«filter_wait») k) now)
     || isNow (dueOf (waitEnd (s .«setup_wait») k) now)
-    || isNow (dueOf (halfEnd (s .«monitor_wait») k) now)
-    || isNow (dueOf (halfEnd (s .«clock_wait») k) now)
+    || isNow (dueOf (halfEnd (s .«monitor_wait») (k .system)) now)
+    || isNow (dueOf (halfEnd (s .«clock_wait») (k .system)) now)
+
+-- where a clock of the set holds a zero every time is refused (1), so none is due
+unfoldable pub anyDue : Clocks → Time → Iic → Bool
+anyDue k now s = not (hasZero k) && waitsDue k now s
 
 -- a frame is left that the state before didn't hold
 abbrev pub startsFrame : Iic → Iic → Bool

@@ -10,18 +10,18 @@ use Rattle.time.specs.Time as Time
 use Rattle.time.specs.Clock as Clock
 use Rattle.clocks.specs.Clocks as Clocks
 use Rattle.clocks.specs.Domain as Domain
-use Rattle.clocks.specs.Half as Halves
 use Rattle.clocks.specs.Counts as Counts
 use Rattle.clocks.specs.Tap as Tap
+use Rattle.clocks.specs.System as System
 use Rattle.clocks.specs.Wait as Wait
 use Rattle.frames.specs.Parts as Parts
-use Rattle.iic.specs.Access as Access
 use Rattle.iic.specs.Calls as Iic
 use Rattle.iic.specs.Clocking as Clocking
 use Rattle.iic.specs.Kick as Kick
 use Rattle.iic.specs.State as State
 use Rattle.iic.specs.Waiting as Waits
-use Rattle.iic.specs.Registers as Registers
+use Rattle.iic.specs.Reading as Reading
+use Rattle.iic.specs.Writing as Writing
 use Rattle.iic.specs.Ready as Ready
 use Rattle.iic.specs.Shift as Shift
 use Rattle.waits.specs.Ends as Ends
@@ -35,7 +35,8 @@ use Rattle.clocks.specs.declared.wait.NewWait.{NewWait}
 use Rattle.clocks.specs.declared.wait.NewWait.the-variants as wait
 use Rattle.clocks.specs.declared.wait.WaitState.the-variants.{Running}
 use Rattle.clocks.specs.Tap.{systemTap}
-use Rattle.clocks.specs.Wait.{waitAfter, waitOf}
+use Rattle.clocks.specs.System.{systemAfter}
+use Rattle.clocks.specs.Wait.{waitOf}
 use Rattle.iic.specs.declared.Iic.{Iic}
 use Rattle.iic.specs.declared.Stepped.{Stepped}
 use Rattle.frames.specs.declared.Frame.{Frame}
@@ -45,7 +46,7 @@ use Rattle.waits.specs.declared.MaybeWait.the-variants.{Waiting}
 use Rattle.waits.specs.declared.MaybeHalf.the-variants as maybe
 use Rattle.waits.specs.declared.NewHalf.{NewHalf}
 use Rattle.waits.specs.declared.NewHalf.the-variants as half
-use Rattle.iic.specs.Registers.{stopReceiveOf}
+use Rattle.iic.specs.Writing.{stopReceiveOf}
 use Rattle.iic.specs.Answers.{fine, andThen, truthOf}
 use Rattle.waits.specs.Half.{halfAfter, halfWait}
 use Rattle.iic.specs.Kick.{kickOf}
@@ -69,13 +70,13 @@ none-yet : edgesBefore (late .system .clock) (timeOf (at 0) + 1) ≡ 0
 none-yet = none-before (late .system .clock) (timeOf (at 0) + 1) (lit< tt) (lit< tt) (lit≤ tt)
 
 -- a half wait is started all the same
-late-half : halfAfter (at 0) 28 late ≡ half.Made (halfWait false 29)
-unfolding Time.earlier Time.midway Time.momentOf Time.nextTime Time.sumOf Clock.afterOf Clock.edgeOf Clock.edgesBeforeOf Clock.zeroIn Clocks.hasZero Counts.fits Domain.domainHalfTicks Domain.domainTicks Domain.edgeOrLast Domain.halves Domain.halvesOf Domain.highBetween Domain.levelHigh Halves.halfTicks Half.halfAfter State.defaultIic Hosts.start
+late-half : halfAfter (at 0) 28 (late .system) ≡ half.Made (halfWait false 29)
+unfolding Time.earlier Time.midway Time.momentOf Time.nextTime Time.sumOf Clock.afterOf Clock.edgeOf Clock.edgesBeforeOf Clock.zeroIn Counts.fits Domain.domainHalfTicks Domain.domainTicks Domain.edgeOrLast Domain.halves Domain.halvesOf Domain.highBetween Domain.levelHigh Half.halfAfter State.defaultIic Hosts.start
 late-half = rw none-yet refl
 
 -- a wait for an edge is refused
-pub late-wait : waitAfter (at 0) 1 (systemTap 1) late ≡ wait.Refused 7
-unfolding Time.momentOf Time.nextTime Clock.afterOf Clock.edgeOf Clock.edgesBeforeOf Clock.zeroIn Clocks.availableOf Clocks.fedBy Clocks.hasZero Clocks.routedEdge Clocks.routedTicks Clocks.sourceOf Clocks.tapEdge Clocks.tapTicks Domain.domainTicks Counts.fits Tap.routeOf Tap.routeS Tap.stageBelow Tap.stageOf Wait.dated Wait.edgeDeadline Wait.startedAt Wait.startedBy Wait.startedFor Wait.waitAfter State.defaultIic Hosts.start
+pub late-wait : systemAfter (at 0) 1 (late .system) ≡ wait.Refused 7
+unfolding Time.momentOf Time.nextTime Clock.afterOf Clock.edgeOf Clock.edgesBeforeOf Clock.zeroIn Domain.domainTicks Counts.fits Wait.dated System.domainDeadline Wait.startedBy System.systemStartedAt System.systemAfter State.defaultIic Hosts.start
 late-wait = rw none-yet refl
 
 -- 1 Hz from second 1 on: edge 1 is at second 2
@@ -85,8 +86,8 @@ ticking = clockSet true (at 1)
 no-tick-yet : edgesBefore (ticking .system .clock) (timeOf (at 0) + 1) ≡ 0
 no-tick-yet = none-before (ticking .system .clock) (timeOf (at 0) + 1) (lit< tt) (lit< tt) (lit≤ tt)
 
-ticking-wait : waitAfter (at 0) 1 (systemTap 1) ticking ≡ wait.Made (waitOf (systemTap 1) (Running 1))
-unfolding Time.momentOf Time.nextTime Clock.afterOf Clock.edgeOf Clock.edgesBeforeOf Clock.zeroIn Clocks.availableOf Clocks.fedBy Clocks.hasZero Clocks.routedEdge Clocks.routedTicks Clocks.sourceOf Clocks.tapEdge Clocks.tapTicks Domain.domainTicks Counts.fits Tap.routeOf Tap.routeS Tap.stageBelow Tap.stageOf Wait.dated Wait.edgeDeadline Wait.startedAt Wait.startedBy Wait.startedFor Wait.waitAfter State.defaultIic Hosts.start
+ticking-wait : systemAfter (at 0) 1 (ticking .system) ≡ wait.Made (waitOf (systemTap 1) (Running 1))
+unfolding Time.momentOf Time.nextTime Clock.afterOf Clock.edgeOf Clock.edgesBeforeOf Clock.zeroIn Domain.domainTicks Counts.fits Wait.dated System.domainDeadline Wait.startedBy System.systemStartedAt System.systemAfter State.defaultIic Hosts.start
 ticking-wait = rw no-tick-yet refl
 
 -- ## Hosts on the way
@@ -142,12 +143,12 @@ clock-rows :
     -- the filter's wait is due at second 2 alone
     × (calls (leftOf ticking (made (third ++ (inputPins true false (at 0) ∷ advance (at 1) ∷ advance (at 3) ∷ advance (at 2) ∷ []))))
     ≡ third ++ (inputPins true false (at 0) ∷ advance (at 2) ∷ []))
-unfolding Time.midway Time.momentOf Time.sameTime Clock.afterOf Clock.edgeOf Clock.zeroIn Clocks.availableOf Clocks.fedBy Clocks.hasZero Clocks.routedEdge Clocks.sourceOf Clocks.tapEdge Domain.domainHalfEdge Domain.oddEdge Halves.halfEdge Counts.fits Tap.routeOf Tap.routeS Tap.routeW Tap.stageBelow Tap.stageOf Wait.dated Wait.edgeDeadline Wait.waitDeadline Registers.continuedOf Registers.controlSet Registers.enterResetOf Registers.giveDataOf Registers.peekAt Registers.pullSdaOf Access.readAt Access.readDataOf Parts.redirectFrame Registers.redirected Registers.registerAt Access.resumedOf Access.sendOnOf Registers.stopReceiveOf Registers.takeControlOf Registers.takenOf Registers.writeAddressOf Access.writeAt Access.outOfResetOf Access.writeControlOf Access.writeDataOf Registers.writeEnableOf Registers.writeModeOf Access.writeCommandOf Registers.writeStatusOf Iic.advanceOf Iic.guardOf Iic.inputPinsOf Iic.keepStretchedOf Iic.peekOf Iic.readOf Iic.setGateOf Iic.takePinsOf Iic.turnGateOf Iic.turnWaitsOf Iic.visitOf Iic.writeOf Clocking.fireClockOf Clocking.fireFilterOf Clocking.fireMonitorOf Clocking.fireSetupOf Half.halfDeadline Kick.clockFrameOf Kick.kickOf Kick.launchOf Ready.lowHalfOf Ready.nextFrameOf Shift.beginFrameOf Shift.loadTransmitOf Shift.setHoldOf State.defaultIic State.stopShifterOf Ends.dueOf Ends.halfEnd Rates.periodOf Rates.rate Waits.scheduleFilterOf Waits.startClockOf Waits.turnClockOf Waits.turnFilterOf Waits.turnMonitorOf Waits.turnSetupOf Ends.waitEnd Hosts.after Hosts.anyDue Hosts.idle Hosts.outcomeOf Hosts.start Demand3.left
+unfolding Time.midway Time.momentOf Time.sameTime Clock.afterOf Clock.edgeOf Clock.zeroIn Clocks.availableOf Clocks.fedBy Clocks.hasZero Clocks.routedEdge Clocks.sourceOf Clocks.tapEdge Domain.domainHalfEdge Domain.oddEdge Counts.fits Tap.routeOf Tap.routeS Tap.routeW Tap.stageBelow Tap.stageOf Wait.dated Wait.edgeDeadline Wait.waitDeadline Reading.continuedOf Writing.controlSet Writing.enterResetOf Writing.giveDataOf Reading.peekAt Writing.pullSdaOf Reading.readAt Reading.readDataOf Parts.redirectFrame Writing.redirected Reading.registerAt Reading.resumedOf Writing.sendOnOf Writing.stopReceiveOf Writing.takeControlOf Reading.takenOf Writing.writeAddressOf Writing.writeAt Writing.outOfResetOf Writing.writeControlOf Writing.writeDataOf Writing.writeEnableOf Writing.writeModeOf Writing.writeCommandOf Writing.writeStatusOf Iic.advanceOf Iic.inputPinsOf Iic.keepStretchedOf Iic.peekOf Iic.readOf Iic.setGateOf Iic.takePinsOf Iic.turnGateOf Iic.turnWaitsOf Iic.visitOf Iic.writeOf Clocking.fireClockOf Clocking.fireFilterOf Clocking.fireMonitorOf Clocking.fireSetupOf Half.halfDeadline Kick.clockFrameOf Kick.kickOf Kick.launchOf Ready.lowHalfOf Ready.nextFrameOf Shift.beginFrameOf Shift.loadTransmitOf Shift.setHoldOf State.defaultIic State.stopShifterOf Ends.dueOf Ends.halfEnd Rates.periodOf Rates.rate Waits.scheduleFilterOf Waits.startClockOf Waits.turnClockOf Waits.turnFilterOf Waits.turnMonitorOf Waits.turnSetupOf Ends.waitEnd Hosts.after Hosts.anyDue Hosts.idle Hosts.outcomeOf Hosts.start Demand3.left
 clock-rows =
     let clocked : outcomeOf late (write 0 0xa0 (at 0)) (afterAll late start first .state) ≡ outcome nothing (setClockWait (maybe.Half (halfWait false 29)) receiving) =
     ap (λ (w : NewHalf). ofStep (clockFrom w receiving)) late-half in
     let refused : outcomeOf late (write 0 0x80 (at 0)) (afterAll late start second .state) ≡ outcome (refusal 7) unkicked =
-    ap (λ (w : NewWait). ofStep (andThen (andThen (filterFrom w unkicked) (λ u. fine (stopReceiveOf u))) (kickOf (at 0) late))) late-wait in
+    ap (λ (w : NewWait). ofStep (andThen (andThen (filterFrom w unkicked) (λ u. fine (stopReceiveOf u))) (kickOf (at 0) (late .system)))) late-wait in
     let filtering : outcomeOf ticking (inputPins true false (at 0)) (afterAll ticking start third .state)
     ≡ outcome (bit true) (setFilterWait (Waiting (waitOf (systemTap 1) (Running 1))) fallen) =
     ap (λ (w : NewWait). outcome (ofTruth (truthOf (filterFrom w fallen .ended) true)) (filterFrom w fallen .state)) ticking-wait in (

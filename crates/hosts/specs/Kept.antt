@@ -10,10 +10,11 @@ use Rattle.bus.specs.Bits.{has}
 use Rattle.bus.specs.Bus.{sameLevels, levels}
 use Rattle.time.specs.declared.Time.{Time}
 use Rattle.clocks.specs.declared.Clocks.{Clocks}
+use Rattle.clocks.specs.declared.domain.Domain.{Domain}
 use Rattle.clocks.specs.declared.wait.NewWait.{NewWait}
 use Rattle.clocks.specs.declared.wait.NewWait.the-variants as wait
-use Rattle.clocks.specs.Tap.{systemTap}
-use Rattle.clocks.specs.Wait.{waitAfter}
+use Rattle.clocks.specs.Clocks.{hasZero}
+use Rattle.clocks.specs.System.{systemAfter}
 use Rattle.iic.specs.declared.Iic.{Iic}
 use Rattle.iic.specs.declared.Ended.{Ended}
 use Rattle.iic.specs.declared.Ended.the-variants.{Finished, Refused}
@@ -27,22 +28,26 @@ use Rattle.waits.specs.declared.MaybeHalf.{MaybeHalf}
 use Rattle.waits.specs.declared.MaybeHalf.the-variants.{NoHalf, Half}
 use Rattle.iic.specs.declared.Register.{Register}
 use Rattle.iic.specs.declared.Register.the-variants.{ICCR1, ICCR2, ICMR, ICIER, ICSR, SAR, ICDRT, ICDRR}
-use Rattle.iic.specs.Registers.{registerAt, takenOf, continuedOf, takeControlOf, stopReceiveOf, enterResetOf, pullSdaOf, takesCommand, writeModeOf, writeEnableOf, writeStatusOf, writeAddressOf, giveDataOf}
-use Rattle.iic.specs.Access.{resumedOf, receiveOn, readDataOf, readAt, controlTaken, writeControlOf, commandFrom, outOfResetOf, writeCommandOf, sendOnOf, writeDataOf, writeAt}
+use Rattle.iic.specs.Reading.{registerAt, takenOf, continuedOf}
+use Rattle.iic.specs.Writing.{takeControlOf, stopReceiveOf, enterResetOf, pullSdaOf, takesCommand, writeModeOf, writeEnableOf, writeStatusOf, writeAddressOf, giveDataOf}
+use Rattle.iic.specs.Reading.{resumedOf, receiveOn, readDataOf, readAt}
+use Rattle.iic.specs.Writing.{controlTaken, writeControlOf, commandFrom, outOfResetOf, writeCommandOf, sendOnOf, writeDataOf, writeAt}
 use Rattle.frames.specs.Parts.{recountIn, isData}
 use Rattle.iic.specs.Answers.{fine, andThen, guarded, byteOf, truthOf}
 use Rattle.iic.specs.Bits.{TDRE, NACKF, BC, BCWP, IICRST, SDAOP}
-use Rattle.iic.specs.Calls.{guardOf, peekOf, takePinsOf, keepStretchedOf, turnWaitsOf, turnGateOf, visitOf, readOf, writeOf, inputPinsOf, setGateOf, advanceOf}
+use Rattle.iic.specs.Calls.{guardBy, peekOf, takePinsOf, keepStretchedOf, turnWaitsOf, turnGateOf, visitOf, readOf, writeOf, inputPinsOf, setGateOf, advanceOf}
 use Rattle.iic.specs.Filter.{observes}
 use Rattle.iic.specs.Clocking.{fireFilterOf, fireSetupOf, fireMonitorOf, fireClockOf}
 use Rattle.iic.specs.Setters.{setFrame, setSeen, setRaw, setGate, setReset, setClockWait, setMonitorWait, setFilterWait, setSetupWait}
 use Rattle.iic.specs.State.{stopShifterOf, enabled, awake, transmits, conditioned}
 use Rattle.iic.specs.Waiting.{wantsFilter, scheduleFilterOf, filterFrom, halfFrom, turnClockOf, turnFilterOf, turnHalfIn, turnMonitorOf, turnSetupOf, turnWaitIn, waitFrom}
-use Rattle.waits.specs.Ends.{turnHalf, turnWait}
+use Rattle.waits.specs.Ends.{turnHalf, turnWait, waitEnd}
 use Rattle.hosts.specs.Calls.{Call, peek, read, write, inputPins, deadline, advance, pins, interrupt, interruptWithEnable, validate, ofEnd, ofByte, ofTruth, isRefusal, outcomeOf, Host, lifts, after}
-use Rattle.hosts.specs.Invariant.{settled, Good}
+use Rattle.hosts.specs.Invariant.{Good}
+use Rattle.iic.specs.Settled.{settled}
 use Rattle.hosts.specs.Kicked.{leavesAt, Leaves, Settled, Settles, then-leaves, leaves-more, half-leaves, unready, kick-settles, then-kick}
-use Rattle.hosts.specs.Truths.{or-left, or-right, has-kept}
+use Rattle.time.specs.Truths.{or-left, or-right}
+use Rattle.hosts.specs.Masks.{has-kept}
 
 -- ## Waits
 
@@ -71,17 +76,17 @@ in-reset s e = unready s (rw e (rw (and-false (awake s))))
 
 -- ## `input_pins`
 
-schedule-at : (now : Time) (k : Clocks) (s : Iic) (b : Bool) → Settled s
-    → Settles (cond b (filterFrom (waitAfter now 1 (systemTap 1) k) s) (fine s))
+schedule-at : (now : Time) (k : Domain) (s : Iic) (b : Bool) → Settled s
+    → Settles (cond b (filterFrom (systemAfter now 1 k) s) (fine s))
 unfolding settled
-schedule-at now k s true h = wait-leaves Settled setFilterWait (waitAfter now 1 (systemTap 1) k) s (λ m. h)
+schedule-at now k s true h = wait-leaves Settled setFilterWait (systemAfter now 1 k) s (λ m. h)
 schedule-at now k s false h = h
 
-schedule-settles : (now : Time) (k : Clocks) (s : Iic) → Settled s → Settles (scheduleFilterOf now k s)
+schedule-settles : (now : Time) (k : Domain) (s : Iic) → Settled s → Settles (scheduleFilterOf now k s)
 unfolding scheduleFilterOf
 schedule-settles now k s h = schedule-at now k s (wantsFilter s) h
 
-pins-settles : (given : Levels) (now : Time) (k : Clocks) (s : Iic) (b : Bool) → sameLevels (s .lines .raw) given ≡ b → Settled s
+pins-settles : (given : Levels) (now : Time) (k : Domain) (s : Iic) (b : Bool) → sameLevels (s .lines .raw) given ≡ b → Settled s
     → Settles (takePinsOf given now k s)
 unfolding takePinsOf settled
 pins-settles given now k s true e h = rw e h
@@ -92,7 +97,7 @@ pins-settles given now k s false e h = rw e (schedule-settles now k (setRaw give
 abbrev Ungated : Iic → Type 0
 Ungated s = s .flags .gate ≡ false
 
-half-off : (set : MaybeHalf → Iic → Iic) → ((x : MaybeHalf) (s : Iic) → Ungated s → Ungated (set x s)) → (now : Time) (k : Clocks) (w : MaybeHalf) (s : Iic)
+half-off : (set : MaybeHalf → Iic → Iic) → ((x : MaybeHalf) (s : Iic) → Ungated s → Ungated (set x s)) → (now : Time) (k : Domain) (w : MaybeHalf) (s : Iic)
     → Ungated s → Leaves Ungated (turnHalfIn (halfFrom set) false now k w s)
 half-off set keeps now k NoHalf s h = h
 half-off set keeps now k (Half w) s h = half-leaves Ungated set (turnHalf false now k w) s (λ v. keeps (Half v) s h)
@@ -103,7 +108,7 @@ wait-off set keeps now k NoWait s h = h
 wait-off set keeps now k (Waiting w) s h = wait-leaves Ungated set (turnWait false now k w) s (λ v. keeps (Waiting v) s h)
 
 -- `turnWaitsOf` by its parts, the last first
-off-1 : (now : Time) (k : Clocks) (s : Iic) → Ungated s → Leaves Ungated (andThen (turnClockOf false now k s) (turnMonitorOf false now k))
+off-1 : (now : Time) (k : Domain) (s : Iic) → Ungated s → Leaves Ungated (andThen (turnClockOf false now k s) (turnMonitorOf false now k))
 unfolding turnClockOf turnMonitorOf
 off-1 now k s h =
     then-leaves Ungated Ungated (turnClockOf false now k s) (turnMonitorOf false now k)
@@ -113,12 +118,12 @@ off-1 now k s h =
 waits-off : (now : Time) (k : Clocks) (s : Iic) → Ungated s → Leaves Ungated (turnWaitsOf false now k s)
 unfolding turnWaitsOf keepStretchedOf turnFilterOf turnSetupOf
 waits-off now k s h =
-    let o1 : Stepped = andThen (turnClockOf false now k s) (turnMonitorOf false now k) in
-    let o2 : Stepped = andThen o1 (keepStretchedOf false now k) in
+    let o1 : Stepped = andThen (turnClockOf false now (k .system) s) (turnMonitorOf false now (k .system)) in
+    let o2 : Stepped = andThen o1 (keepStretchedOf false now (k .system)) in
     let o3 : Stepped = andThen o2 (turnFilterOf false now k) in
     then-leaves Ungated Ungated o3 (turnSetupOf false now k)
     (then-leaves Ungated Ungated o2 (turnFilterOf false now k)
-    (then-leaves Ungated Ungated o1 (keepStretchedOf false now k) (off-1 now k s h) (λ t g. g))
+    (then-leaves Ungated Ungated o1 (keepStretchedOf false now (k .system)) (off-1 now (k .system) s h) (λ t g. g))
     (λ t g. wait-off setFilterWait (λ x u f. f) now k (t .«filter_wait») t g))
     (λ t g. wait-off setSetupWait (λ x u f. f) now k (t .«setup_wait») t g)
 
@@ -126,7 +131,7 @@ gate-settles : (gate : Bool) (now : Time) (k : Clocks) (s : Iic) (b : Bool) → 
     → Settles (turnGateOf gate now k s)
 unfolding turnGateOf
 gate-settles gate now k s true e h = rw e h
-gate-settles true now k s false e h = rw e (then-kick now k (andThen (turnWaitsOf true now k (setGate true s)) (scheduleFilterOf now k)))
+gate-settles true now k s false e h = rw e (then-kick now (k .system) (andThen (turnWaitsOf true now k (setGate true s)) (scheduleFilterOf now (k .system))))
 gate-settles false now k s false e h =
     rw e (leaves-more Ungated Settled (turnWaitsOf false now k (setGate false s)) (waits-off now k (setGate false s) refl) ungated)
 
@@ -135,7 +140,8 @@ gate-settles false now k s false e h =
 visit-settles : (now : Time) (k : Clocks) (s : Iic) (b : Bool) → awake s ≡ b → Settles (visitOf now k s)
 unfolding visitOf
 visit-settles now k s true e =
-    rw e (then-kick now k (andThen (andThen (andThen (fireFilterOf now k s) (fireSetupOf now k)) (fireMonitorOf now k)) (fireClockOf now k)))
+    rw e (then-kick now (k .system) (andThen (andThen (andThen (fireFilterOf (waitEnd (s .«filter_wait») k) now (k .system) s)
+    (λ u. fireSetupOf (waitEnd (u .«setup_wait») k) now u)) (fireMonitorOf now (k .system))) (fireClockOf now (k .system))))
 visit-settles now k s false e = rw e (off s e)
 
 -- ## `read`
@@ -151,7 +157,7 @@ taken-settled : (now : Time) (s : Iic) → settled s ≡ true → settled (taken
 unfolding takenOf settled
 taken-settled now s h = rw (TDRE-kept (s .registers .status), NACKF-kept (s .registers .status)) h
 
-receive-settles : (now : Time) (k : Clocks) (s : Iic) (b : Bool) → transmits s ≡ b → Settled s → Settles (receiveOn now k s)
+receive-settles : (now : Time) (k : Domain) (s : Iic) (b : Bool) → transmits s ≡ b → Settled s → Settles (receiveOn now k s)
 receive-settles now k s true e h = rw e h
 receive-settles now k s false e h = rw e (then-kick now k (resumedOf now k (continuedOf s)))
 
@@ -159,7 +165,7 @@ seen-settled : (s : Iic) → settled s ≡ true → settled (setSeen (s .registe
 unfolding settled
 seen-settled s h = h
 
-read-settles : (r : Register) (now : Time) (k : Clocks) (s : Iic) → Settled s → Settles (readAt r now k s)
+read-settles : (r : Register) (now : Time) (k : Domain) (s : Iic) → Settled s → Settles (readAt r now k s)
 unfolding readAt readDataOf
 read-settles ICCR1 now k s h = h
 read-settles ICCR2 now k s h = h
@@ -173,7 +179,7 @@ read-settles ICDRR now k s h = receive-settles now k (takenOf now s) (transmits 
 -- ## `write`
 
 -- ICCR1
-control-settles : (now : Time) (k : Clocks) (s : Iic) (b : Bool) → enabled s ≡ b → Settles (controlTaken now k s)
+control-settles : (now : Time) (k : Domain) (s : Iic) (b : Bool) → enabled s ≡ b → Settles (controlTaken now k s)
 unfolding stopShifterOf
 control-settles now k s true e = rw e (then-kick now k (andThen (scheduleFilterOf now k s) (λ u. fine (stopReceiveOf u))))
 control-settles now k s false e = rw e (disabled _ e)
@@ -188,7 +194,7 @@ unfolding pullSdaOf settled
 pull-settled value s true e h = rw e h
 pull-settled value s false e h = rw e h
 
-command-settles : (value : ℕ) (now : Time) (k : Clocks) (s : Iic) (b : Bool) → takesCommand value s ≡ b → Settled s
+command-settles : (value : ℕ) (now : Time) (k : Domain) (s : Iic) (b : Bool) → takesCommand value s ≡ b → Settled s
     → Settles (commandFrom value now k s)
 command-settles value now k s true e h = rw e (kick-settles now k _)
 command-settles value now k s false e h = rw e h
@@ -198,7 +204,7 @@ unless-lifted : (b : Bool) (s : Iic) (o : Stepped) → s .flags .reset ≡ b →
 unless-lifted true s o q n h = absurd (true≢false (rw q at n))
 unless-lifted false s o q n h = h
 
-reset-settles : (value : ℕ) (now : Time) (k : Clocks) (s : Iic) (a : Bool) → has value IICRST ≡ a
+reset-settles : (value : ℕ) (now : Time) (k : Domain) (s : Iic) (a : Bool) → has value IICRST ≡ a
     → lifts s (writeCommandOf value now k s .state) ≡ false → Settled s → Settles (writeCommandOf value now k s)
 unfolding writeCommandOf outOfResetOf
 reset-settles value now k s true p n h = rw p (enter-settled s)
@@ -225,7 +231,7 @@ enable-settled : (value : ℕ) (s : Iic) → settled s ≡ true → settled (wri
 unfolding writeEnableOf settled
 enable-settled value s h = h
 
-write-settles : (r : Register) (value : ℕ) (now : Time) (k : Clocks) (s : Iic)
+write-settles : (r : Register) (value : ℕ) (now : Time) (k : Domain) (s : Iic)
     → lifts s (writeAt r value now k s .state) ≡ false → Settled s → Settles (writeAt r value now k s)
 unfolding writeAt writeControlOf writeDataOf
 write-settles ICCR1 value now k s n h = control-settles now k (takeControlOf value s) (enabled (takeControlOf value s)) refl
@@ -269,30 +275,30 @@ truth-refused (Refused n) b = refl
 -- ## Every call
 
 write-good : (r : Register) (value : ℕ) (now : Time) (k : Clocks) (s : Iic) (was : Bool)
-    → let o : Stepped = guarded (guardOf s k) s (writeAt r value now k s) in
+    → let o : Stepped = guarded (guardBy (hasZero k) s) s (writeAt r value now (k .system) s) in
     isRefusal (ofEnd (o .ended)) ≡ false → (was ≡ false → Settled s) → (was || lifts s (o .state)) ≡ false → Settled (o .state)
 write-good r value now k s was a g e =
-    let w : Stepped = writeAt r value now k s in
-    let same : guarded (guardOf s k) s w ≡ w = passes (guardOf s k) s w (eqb (guardOf s k) 0) refl a in
-    let n : lifts s (w .state) ≡ false = rw same at (or-right was (lifts s (guarded (guardOf s k) s w .state)) e) in
-    guarded-settled (guardOf s k) s w (write-settles r value now k s n (g (or-left was _ e))) a
+    let w : Stepped = writeAt r value now (k .system) s in
+    let same : guarded (guardBy (hasZero k) s) s w ≡ w = passes (guardBy (hasZero k) s) s w (eqb (guardBy (hasZero k) s) 0) refl a in
+    let n : lifts s (w .state) ≡ false = rw same at (or-right was (lifts s (guarded (guardBy (hasZero k) s) s w .state)) e) in
+    guarded-settled (guardBy (hasZero k) s) s w (write-settles r value now (k .system) s n (g (or-left was _ e))) a
 
 -- the host after a call that isn't refused is good where the one before was
 pub good-after : (k : Clocks) (x : Call) (h : Host) → Good h → isRefusal (outcomeOf k x (h .state) .answer) ≡ false → Good (after k x h)
 unfolding outcomeOf after readOf writeOf inputPinsOf setGateOf advanceOf
 good-after k (peek a) h g ok = g
 good-after k (read a now) h g ok = λ e.
-    guarded-settled (guardOf (h .state) k) (h .state) (readAt (registerAt a) now k (h .state))
-    (read-settles (registerAt a) now k (h .state) (g e)) (sym (byte-refused (guarded (guardOf (h .state) k) (h .state) (readAt (registerAt a) now k (h .state)) .ended) (peekOf (h .state) a)) ∙ ok)
+    guarded-settled (guardBy (hasZero k) (h .state)) (h .state) (readAt (registerAt a) now (k .system) (h .state))
+    (read-settles (registerAt a) now (k .system) (h .state) (g e)) (sym (byte-refused (guarded (guardBy (hasZero k) (h .state)) (h .state) (readAt (registerAt a) now (k .system) (h .state)) .ended) (peekOf (h .state) a)) ∙ ok)
 good-after k (write a value now) h g ok = write-good (registerAt a) value now k (h .state) (h .lifted) ok g
 good-after k (inputPins scl sda now) h g ok = λ e.
-    guarded-settled (guardOf (h .state) k) (h .state) (takePinsOf (levels scl sda) now k (h .state))
-    (pins-settles (levels scl sda) now k (h .state) _ refl (g e)) (sym (truth-refused (guarded (guardOf (h .state) k) (h .state) (takePinsOf (levels scl sda) now k (h .state)) .ended) (observes (h .state) (levels scl sda))) ∙ ok)
+    guarded-settled (guardBy (hasZero k) (h .state)) (h .state) (takePinsOf (levels scl sda) now (k .system) (h .state))
+    (pins-settles (levels scl sda) now (k .system) (h .state) _ refl (g e)) (sym (truth-refused (guarded (guardBy (hasZero k) (h .state)) (h .state) (takePinsOf (levels scl sda) now (k .system) (h .state)) .ended) (observes (h .state) (levels scl sda))) ∙ ok)
 good-after k (Call.setGate gate now) h g ok = λ e.
-    guarded-settled (guardOf (h .state) k) (h .state) (turnGateOf gate now k (h .state)) (gate-settles gate now k (h .state) _ refl (g e)) ok
+    guarded-settled (guardBy (hasZero k) (h .state)) (h .state) (turnGateOf gate now k (h .state)) (gate-settles gate now k (h .state) _ refl (g e)) ok
 good-after k deadline h g ok = g
 good-after k (advance now) h g ok = λ e.
-    guarded-settled (guardOf (h .state) k) (h .state) (visitOf now k (h .state)) (visit-settles now k (h .state) _ refl) ok
+    guarded-settled (guardBy (hasZero k) (h .state)) (h .state) (visitOf now k (h .state)) (visit-settles now k (h .state) _ refl) ok
 good-after k pins h g ok = g
 good-after k interrupt h g ok = g
 good-after k (interruptWithEnable retained) h g ok = g

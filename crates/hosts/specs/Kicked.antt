@@ -1,9 +1,9 @@
--- Laws: a kick does nothing on a settled state, at any time, and every kick that isn't refused leaves a settled one.
+-- Laws: every kick that isn't refused leaves a settled state.
 use mathlib.Core.Bool.{Bool, true, false, not, _&&_, _||_, cond, true≢false, false≢true, or-true, and-false}
 use mathlib.Core.Path.{_≡_, refl}
 use Rattle.bus.specs.Bits.{has}
 use Rattle.time.specs.declared.Time.{Time}
-use Rattle.clocks.specs.declared.Clocks.{Clocks}
+use Rattle.clocks.specs.declared.domain.Domain.{Domain}
 use Rattle.iic.specs.declared.Iic.{Iic}
 use Rattle.iic.specs.declared.Ended.{Ended}
 use Rattle.iic.specs.declared.Ended.the-variants.{Finished, Refused}
@@ -32,54 +32,8 @@ use Rattle.iic.specs.Shift.{canLoad, loadIn, loadTransmitOf, beginFrameOf, setH
 use Rattle.iic.specs.State.{awake, master, synchronous, framed, commanded, conditioned, held, isCondition}
 use Rattle.waits.specs.Rates.{periodOf}
 use Rattle.iic.specs.Waiting.{halfFrom, startClockOf}
-use Rattle.hosts.specs.Invariant.{loadsIn, loads, restsIn, rests, atRest, settled}
-use Rattle.hosts.specs.Truths.{and-left, and-right, not-so}
-
--- ## On a settled state
-
-next-same : (s : Iic) → frameDue s ≡ false → nextFrameOf s ≡ s
-unfolding nextFrameOf
-next-same s h = rw h
-
-load-same : (fr : Framing) (s : Iic) → loadsIn fr (has (s .registers .status) TDRE) ≡ false → loadIn fr s ≡ s
-load-same NoFrame s h = refl
-load-same (InFrame f) s h = rw h
-
-hold-same : (h : Hold) (s : Iic) → synchronous s ≡ true → setHoldOf h s ≡ s
-unfolding setHoldOf
-hold-same h s e = rw e
-
-launch-rests : (now : Time) (k : Clocks) (f : Frame) (s : Iic) (d w : Bool)
-    → isDone (f .phase) ≡ d → starved f ≡ w → (d || w && synchronous s) ≡ true → launchOf f now k s ≡ fine s
-unfolding launchOf
-launch-rests now k f s true w p q h = rw p
-launch-rests now k f s false true p q h = rw (p, q, hold-same Transmit s h)
-launch-rests now k f s false false p q h = absurd (false≢true h)
-
-clock-same : (now : Time) (k : Clocks) (fr : Framing) (s : Iic) (b : Bool) → (not b || restsIn fr (synchronous s)) ≡ true
-    → cond b (launchIn fr now k s) (fine s) ≡ fine s
-clock-same now k fr s false h = refl
-clock-same now k NoFrame s true h = refl
-clock-same now k (InFrame f) s true h = launch-rests now k f s (isDone (f .phase)) (starved f) refl refl h
-
-rest-same : (now : Time) (k : Clocks) (s : Iic) → atRest s ≡ true → clockFrameOf now k (loadTransmitOf (nextFrameOf s)) ≡ fine s
-unfolding clockFrameOf loadTransmitOf
-rest-same now k s h =
-    rw (next-same s (not-so _ (and-left _ _ h)))
-    (rw (load-same (s .frame) s (not-so _ (and-left _ _ (and-right (not (frameDue s)) _ h))))
-    (clock-same now k (s .frame) s (clockDue s) (and-right (not (loads s)) _ (and-right (not (frameDue s)) _ h))))
-
-kick-cases : (now : Time) (k : Clocks) (s : Iic) (a b : Bool) → ready s ≡ a → commandReady s ≡ b
-    → (not a || (not b && atRest s)) ≡ true → kickOf now k s ≡ fine s
-unfolding kickOf
-kick-cases now k s false b p q h = rw p
-kick-cases now k s true true p q h = absurd (false≢true h)
-kick-cases now k s true false p q h = rw (p, q, rest-same now k s h)
-
--- a kick on a settled state does nothing, at any time, and isn't refused
-pub settled-kick : (now : Time) (k : Clocks) (s : Iic) → settled s ≡ true → kickOf now k s ≡ fine s
-unfolding settled
-settled-kick now k s h = kick-cases now k s (ready s) (commandReady s) refl refl h
+use Rattle.iic.specs.Settled.{loadsIn, loads, restsIn, rests, atRest, settled}
+use Rattle.time.specs.Truths.{and-left, and-right, not-so}
 
 -- ## What a step leaves
 
@@ -140,7 +94,7 @@ begun : (b : Bool) → isCondition (firstCondition b) ≡ true
 begun true = refl
 begun false = refl
 
-command-settles : (now : Time) (k : Clocks) (c : Command) (s : Iic) → commandReady s ≡ true → s .command ≡ c → Settles (commandIn c now k s)
+command-settles : (now : Time) (k : Domain) (c : Command) (s : Iic) → commandReady s ≡ true → s .command ≡ c → Settles (commandIn c now k s)
 unfolding startClockOf begunOf
 command-settles now k NoCommand s h e = absurd (false≢true (rw e at h))
 command-settles now k (Commanded start) s h e =
@@ -204,7 +158,7 @@ hold-settles s f true e r l w =
 hold-settles s f false e r l w =
     rw e (framed-settled _ record { no-command = r .no-command; no-frame = refl } l (rw (while-held (master s) true (not (s .flags .«synchronized_hold»)))))
 
-launch-settles : (now : Time) (k : Clocks) (f : Frame) (s : Iic) (d w : Bool)
+launch-settles : (now : Time) (k : Domain) (f : Frame) (s : Iic) (d w : Bool)
     → Framed (setFrame (InFrame f) s) → canLoad s f ≡ false → isDone (f .phase) ≡ d → starved f ≡ w
     → Settles (launchOf f now k (setFrame (InFrame f) s))
 unfolding launchOf startClockOf lowHalfOf
@@ -215,18 +169,18 @@ launch-settles now k f s false false r l p q =
     framed-settled _ record { no-command = r .no-command; no-frame = refl } l
     (rw (beside-wait (master s) (not (held s)) (not (s .flags .«synchronized_hold»))))))
 
-clock-settles : (now : Time) (k : Clocks) (fr : Framing) (s : Iic) (b : Bool)
+clock-settles : (now : Time) (k : Domain) (fr : Framing) (s : Iic) (b : Bool)
     → Framed (setFrame fr s) → loadsIn fr (has (s .registers .status) TDRE) ≡ false → clockDue s ≡ b
     → Settles (cond b (launchIn fr now k (setFrame fr s)) (fine (setFrame fr s)))
 clock-settles now k fr s false r l e = framed-settled (setFrame fr s) r l (rw e refl)
 clock-settles now k NoFrame s true r l e = framed-settled (setFrame NoFrame s) r refl (or-true (not (clockDue s)))
 clock-settles now k (InFrame f) s true r l e = launch-settles now k f s (isDone (f .phase)) (starved f) r l refl refl
 
-frame-settles : (now : Time) (k : Clocks) (s : Iic) → Framed s → loads s ≡ false → Settles (clockFrameOf now k s)
+frame-settles : (now : Time) (k : Domain) (s : Iic) → Framed s → loads s ≡ false → Settles (clockFrameOf now k s)
 unfolding clockFrameOf
 frame-settles now k s r l = clock-settles now k (s .frame) s (clockDue s) r l refl
 
-kick-settles-at : (now : Time) (k : Clocks) (s : Iic) (a b : Bool) → ready s ≡ a → commandReady s ≡ b → Settles (kickOf now k s)
+kick-settles-at : (now : Time) (k : Domain) (s : Iic) (a b : Bool) → ready s ≡ a → commandReady s ≡ b → Settles (kickOf now k s)
 unfolding kickOf beginConditionOf
 kick-settles-at now k s false b p q = rw p (unready s p)
 kick-settles-at now k s true true p q = rw (p, q) (command-settles now k (s .command) s q refl)
@@ -235,9 +189,9 @@ kick-settles-at now k s true false p q =
     rw (p, q) (frame-settles now k (loadTransmitOf n)
     (transmit-framed n (next-framed s (frameDue s) refl q)) (transmit-loaded n))
 
-pub kick-settles : (now : Time) (k : Clocks) (s : Iic) → Settles (kickOf now k s)
+pub kick-settles : (now : Time) (k : Domain) (s : Iic) → Settles (kickOf now k s)
 kick-settles now k s = kick-settles-at now k s (ready s) (commandReady s) refl refl
 
 -- a call that ends in a kick
-pub then-kick : (now : Time) (k : Clocks) (o : Stepped) → Settles (andThen o (kickOf now k))
+pub then-kick : (now : Time) (k : Domain) (o : Stepped) → Settles (andThen o (kickOf now k))
 then-kick now k o = then-leaves Any Settled o (kickOf now k) (any o) (λ s h. kick-settles now k s)

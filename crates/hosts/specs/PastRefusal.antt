@@ -10,18 +10,17 @@ use Rattle.time.specs.Time as Time
 use Rattle.time.specs.Clock as Clock
 use Rattle.clocks.specs.Clocks as Clocks
 use Rattle.clocks.specs.Domain as Domain
-use Rattle.clocks.specs.Half as Halves
 use Rattle.clocks.specs.Counts as Counts
 use Rattle.clocks.specs.Tap as Tap
 use Rattle.clocks.specs.Wait as Wait
 use Rattle.frames.specs.Parts as Parts
-use Rattle.iic.specs.Access as Access
 use Rattle.iic.specs.Calls as Iic
 use Rattle.iic.specs.Clocking as Clocking
 use Rattle.iic.specs.Kick as Kick
 use Rattle.iic.specs.State as State
 use Rattle.iic.specs.Waiting as Waits
-use Rattle.iic.specs.Registers as Registers
+use Rattle.iic.specs.Reading as Reading
+use Rattle.iic.specs.Writing as Writing
 use Rattle.iic.specs.Ready as Ready
 use Rattle.iic.specs.Shift as Shift
 use Rattle.waits.specs.Ends as Ends
@@ -75,10 +74,10 @@ worked :
     -- the eighth is refused 7 in both, and the ninth, a read of ICSR, answers 80 and 00
     × (answers (leftOf late withVisit) ≡ before-it ++ (refusal 7 ∷ byte 0x80 ∷ []))
     × (answers (leftOf late withoutVisit) ≡ before-it ++ (refusal 7 ∷ byte 0x00 ∷ []))
-unfolding Time.midway Time.momentOf Time.sameTime Clock.afterOf Clock.edgeOf Clock.zeroIn Clocks.availableOf Clocks.fedBy Clocks.hasZero Clocks.routedEdge Clocks.sourceOf Clocks.tapEdge Domain.domainHalfEdge Domain.oddEdge Halves.halfEdge Counts.fits Tap.routeOf Tap.routeS Tap.routeW Tap.stageBelow Tap.stageOf Wait.dated Wait.edgeDeadline Wait.waitDeadline Registers.continuedOf Registers.controlSet Registers.enterResetOf Registers.giveDataOf Registers.peekAt Registers.pullSdaOf Access.readAt Access.readDataOf Parts.redirectFrame Registers.redirected Registers.registerAt Access.resumedOf Access.sendOnOf Registers.stopReceiveOf Registers.takeControlOf Registers.takenOf Registers.writeAddressOf Access.writeAt Access.outOfResetOf Access.writeControlOf Access.writeDataOf Registers.writeEnableOf Registers.writeModeOf Access.writeCommandOf Registers.writeStatusOf Iic.advanceOf Iic.guardOf Iic.inputPinsOf Iic.keepStretchedOf Iic.peekOf Iic.readOf Iic.setGateOf Iic.takePinsOf Iic.turnGateOf Iic.turnWaitsOf Iic.visitOf Iic.writeOf Clocking.fireClockOf Clocking.fireFilterOf Clocking.fireMonitorOf Clocking.fireSetupOf Half.halfDeadline Kick.clockFrameOf Kick.kickOf Kick.launchOf Ready.lowHalfOf Ready.nextFrameOf Shift.beginFrameOf Shift.loadTransmitOf Shift.setHoldOf State.defaultIic State.stopShifterOf Ends.dueOf Ends.halfEnd Rates.periodOf Rates.rate Waits.scheduleFilterOf Waits.startClockOf Waits.turnClockOf Waits.turnFilterOf Waits.turnMonitorOf Waits.turnSetupOf Ends.waitEnd Hosts.after Hosts.anyDue Hosts.idle Hosts.outcomeOf Hosts.start Demand3.left
+unfolding Time.midway Time.momentOf Time.sameTime Clock.afterOf Clock.edgeOf Clock.zeroIn Clocks.availableOf Clocks.fedBy Clocks.hasZero Clocks.routedEdge Clocks.sourceOf Clocks.tapEdge Domain.domainHalfEdge Domain.oddEdge Counts.fits Tap.routeOf Tap.routeS Tap.routeW Tap.stageBelow Tap.stageOf Wait.dated Wait.edgeDeadline Wait.waitDeadline Reading.continuedOf Writing.controlSet Writing.enterResetOf Writing.giveDataOf Reading.peekAt Writing.pullSdaOf Reading.readAt Reading.readDataOf Parts.redirectFrame Writing.redirected Reading.registerAt Reading.resumedOf Writing.sendOnOf Writing.stopReceiveOf Writing.takeControlOf Reading.takenOf Writing.writeAddressOf Writing.writeAt Writing.outOfResetOf Writing.writeControlOf Writing.writeDataOf Writing.writeEnableOf Writing.writeModeOf Writing.writeCommandOf Writing.writeStatusOf Iic.advanceOf Iic.inputPinsOf Iic.keepStretchedOf Iic.peekOf Iic.readOf Iic.setGateOf Iic.takePinsOf Iic.turnGateOf Iic.turnWaitsOf Iic.visitOf Iic.writeOf Clocking.fireClockOf Clocking.fireFilterOf Clocking.fireMonitorOf Clocking.fireSetupOf Half.halfDeadline Kick.clockFrameOf Kick.kickOf Kick.launchOf Ready.lowHalfOf Ready.nextFrameOf Shift.beginFrameOf Shift.loadTransmitOf Shift.setHoldOf State.defaultIic State.stopShifterOf Ends.dueOf Ends.halfEnd Rates.periodOf Rates.rate Waits.scheduleFilterOf Waits.startClockOf Waits.turnClockOf Waits.turnFilterOf Waits.turnMonitorOf Waits.turnSetupOf Ends.waitEnd Hosts.after Hosts.anyDue Hosts.idle Hosts.outcomeOf Hosts.start Demand3.left
 worked =
     let refused : outcomeOf late (setGate true (at 0)) (afterAll late start starving .state) ≡ outcome (refusal 7) starved =
-    ap (λ (w : NewWait). ofStep (andThen (filterFrom w starved) (kickOf (at 0) late))) late-wait in
+    ap (λ (w : NewWait). ofStep (andThen (filterFrom w starved) (kickOf (at 0) (late .system)))) late-wait in
     let more = then-left late (afterAll late start starving) (setGate true (at 0)) (made (advance (at 0) ∷ read 4 (at 0) ∷ [])) _ refl refused in
     let less = then-left late (afterAll late start starving) (setGate true (at 0)) (made (read 4 (at 0) ∷ [])) _ refl refused in (
       ap (λ (l : List Left). starving ++ calls l) more ∙ sym (ap (λ (l : List Left). starving ++ calls l) less),

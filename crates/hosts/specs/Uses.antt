@@ -11,16 +11,17 @@ use Rattle.clocks.specs.Clocks as Clocks
 use Rattle.clocks.specs.Domain as Domain
 use Rattle.clocks.specs.Counts as Counts
 use Rattle.clocks.specs.Tap as Tap
+use Rattle.clocks.specs.System as System
 use Rattle.clocks.specs.Wait as Wait
 use Rattle.frames.specs.Mirror as Mirror
 use Rattle.frames.specs.Parts as Parts
-use Rattle.iic.specs.Access as Access
 use Rattle.iic.specs.Calls as Iic
 use Rattle.iic.specs.Clocking as Clocking
 use Rattle.iic.specs.Kick as Kick
 use Rattle.iic.specs.State as State
 use Rattle.iic.specs.Waiting as Waits
-use Rattle.iic.specs.Registers as Registers
+use Rattle.iic.specs.Reading as Reading
+use Rattle.iic.specs.Writing as Writing
 use Rattle.iic.specs.Ready as Ready
 use Rattle.iic.specs.Shift as Shift
 use Rattle.waits.specs.Ends as Ends
@@ -52,5 +53,5 @@ names-count k (m ∷ l) h =
 -- `visited` has every kind of idle call before and after those of `plain`, and lends its peripheral for the last: at the sixth call left, the
 -- last, both hosts have the same answer and the same state
 pub plain-and-visited : (p q : Left) → IsKth 6 (leftOf still plain) p → IsKth 6 (leftOf still visited) q → (p .answer ≡ q .answer) × (p .state ≡ q .state)
-unfolding Time.earlier Time.nextTime Time.sameTime Clock.edgesBeforeOf Clock.zeroIn Clocks.availableOf Clocks.fedBy Clocks.hasZero Clocks.routedTicks Clocks.sourceOf Clocks.tapTicks Domain.domainTicks Counts.fits Tap.routeOf Tap.routeS Tap.routeW Tap.stageBelow Tap.stageOf Wait.edgeDeadline Wait.leftAt Wait.pausedBy Wait.startedAt Wait.startedBy Wait.startedFor Wait.waitAfter Wait.waitDeadline Wait.waitPause Registers.continuedOf Registers.controlSet Registers.enterResetOf Registers.giveDataOf Registers.peekAt Registers.pullSdaOf Access.readAt Access.readDataOf Parts.redirectFrame Registers.redirected Registers.registerAt Access.resumedOf Access.sendOnOf Registers.stopReceiveOf Registers.takeControlOf Registers.takenOf Registers.writeAddressOf Access.writeAt Access.outOfResetOf Access.writeControlOf Access.writeDataOf Registers.writeEnableOf Registers.writeModeOf Access.writeCommandOf Registers.writeStatusOf Iic.advanceOf Iic.guardOf Iic.inputPinsOf Iic.keepStretchedOf Iic.peekOf Iic.readOf Iic.setGateOf Iic.takePinsOf Iic.turnGateOf Iic.turnWaitsOf Iic.visitOf Iic.writeOf Clocking.fireClockOf Clocking.fireFilterOf Clocking.fireMonitorOf Clocking.fireSetupOf Kick.clockFrameOf Kick.kickOf Kick.launchOf Ready.nextFrameOf Shift.beginFrameOf Shift.loadTransmitOf Shift.setHoldOf State.defaultIic State.stopShifterOf Ends.dueOf Ends.halfEnd Waits.scheduleFilterOf Waits.turnClockOf Waits.turnFilterOf Waits.turnMonitorOf Waits.turnSetupOf Ends.waitEnd Hosts.after Hosts.anyDue Hosts.idle Hosts.outcomeOf Hosts.start Demand3.left Mirror.ordered
+unfolding Time.earlier Time.nextTime Time.sameTime Clock.edgesBeforeOf Clock.zeroIn Clocks.availableOf Clocks.fedBy Clocks.hasZero Clocks.routedTicks Clocks.sourceOf Clocks.tapTicks Domain.domainTicks Counts.fits Tap.routeOf Tap.routeS Tap.routeW Tap.stageBelow Tap.stageOf Wait.edgeDeadline Wait.leftAt Wait.pausedBy System.domainDeadline Wait.startedBy System.systemAfter System.systemStartedAt Wait.waitDeadline Wait.waitPause Reading.continuedOf Writing.controlSet Writing.enterResetOf Writing.giveDataOf Reading.peekAt Writing.pullSdaOf Reading.readAt Reading.readDataOf Parts.redirectFrame Writing.redirected Reading.registerAt Reading.resumedOf Writing.sendOnOf Writing.stopReceiveOf Writing.takeControlOf Reading.takenOf Writing.writeAddressOf Writing.writeAt Writing.outOfResetOf Writing.writeControlOf Writing.writeDataOf Writing.writeEnableOf Writing.writeModeOf Writing.writeCommandOf Writing.writeStatusOf Iic.advanceOf Iic.inputPinsOf Iic.keepStretchedOf Iic.peekOf Iic.readOf Iic.setGateOf Iic.takePinsOf Iic.turnGateOf Iic.turnWaitsOf Iic.visitOf Iic.writeOf Clocking.fireClockOf Clocking.fireFilterOf Clocking.fireMonitorOf Clocking.fireSetupOf Kick.clockFrameOf Kick.kickOf Kick.launchOf Ready.nextFrameOf Shift.beginFrameOf Shift.loadTransmitOf Shift.setHoldOf State.defaultIic State.stopShifterOf Ends.dueOf Ends.halfEnd Waits.scheduleFilterOf Waits.turnClockOf Waits.turnFilterOf Waits.turnMonitorOf Waits.turnSetupOf Ends.waitEnd Hosts.after Hosts.anyDue Hosts.idle Hosts.outcomeOf Hosts.start Demand3.left Mirror.ordered
 plain-and-visited p q a b = two-hosts-agree still plain visited 6 p q a b refl refl

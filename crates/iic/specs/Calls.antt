@@ -1,24 +1,27 @@
 -- Definitions: the eleven calls (iic.rs, each the function of its name; numbers in brackets are its lines). Each decides the answer and the whole
--- next state, refused or not (document 01, demand 2).
+-- next state, refused or not (document 01, demand 2). Of the clock set that a call gets, refusal 1 looks at each clock, and the waits of the filter
+-- and of the setup, which in a state that is handed in may be on any tap, at theirs; all else takes the system domain alone.
 use Prim.Native.Nat.{ℕ}
 use Rattle.bus.specs.Bus.{levels, sameLevels}
 use Rattle.bus.specs.declared.Levels.{Levels}
 use Rattle.clocks.specs.Clocks.{hasZero}
 use Rattle.clocks.specs.declared.Clocks.{Clocks}
+use Rattle.clocks.specs.declared.domain.Domain.{Domain}
 use Rattle.clocks.specs.declared.wait.Deadline.the-variants as deadline
 use Rattle.clocks.specs.declared.wait.Deadline.{Deadline}
-use Rattle.iic.specs.Access.{readAt, writeAt}
 use Rattle.iic.specs.Answers.{andThen, answered, fine, guarded, noticed}
 use Rattle.iic.specs.Clocking.{fireClockOf, fireFilterOf, fireMonitorOf, fireSetupOf}
 use Rattle.iic.specs.Kick.{kickOf}
 use Rattle.iic.specs.Waiting.{scheduleFilterOf, turnClockOf, turnFilterOf, turnMonitorOf, turnSetupOf}
+use Rattle.iic.specs.declared.Ends.{Ends}
 use Rattle.iic.specs.declared.Iic.{Iic}
 use Rattle.iic.specs.declared.Noticed.{Noticed}
 use Rattle.iic.specs.declared.Pins.the-variants.{Driven, NoPins}
 use Rattle.iic.specs.declared.Pins.{Pins}
 use Rattle.iic.specs.declared.ReadOut.{ReadOut}
 use Rattle.iic.specs.declared.Stepped.{Stepped}
-use Rattle.iic.specs.Registers.{peekAt, registerAt}
+use Rattle.iic.specs.Reading.{peekAt, readAt, registerAt}
+use Rattle.iic.specs.Writing.{writeAt}
 use Rattle.iic.specs.Checks.{fellBy, halvesRefusal, interruptWith, progressHolds, rangesHold}
 use Rattle.iic.specs.Filter.{observes}
 use Rattle.iic.specs.Setters.{setGate, setRaw}
@@ -28,34 +31,41 @@ use Rattle.waits.specs.Ends.{halfEnd, sooner, tapRefusal, waitEnd}
 use lib.Dec.{eqb}
 use mathlib.Core.Bool.{Bool, Bool·beq, _&&_, cond, false, not}
 
--- ## Refusals that stand before a call (document 01, their order): 1, then 9, then 10, with the state unchanged; 0 for none
+-- ## Refusals that stand before a call (document 01, their order): 1, where a clock that was handed in holds a zero, then 9, then 10, with the state
+-- unchanged; 0 for none
 
 abbrev pub guardBy : Bool → Iic → ℕ
-guardBy z s = cond z 1 (cond (not (rangesHold s)) 9 (cond (not (progressHolds s)) 10 0))
-
-unfoldable pub guardOf : Iic → Clocks → ℕ
-guardOf s k = guardBy (hasZero k) s
+guardBy zero s = cond zero 1 (cond (not (rangesHold s)) 9 (cond (not (progressHolds s)) 10 0))
 
 -- ## Registers: `peek`, `read`, `write` (197, 215, 255)
 
 unfoldable pub peekOf : Iic → ℕ → ℕ
 peekOf s a = peekAt (registerAt a) s
 
+abbrev pub readBy : Bool → Iic → ℕ → Time → Domain → ReadOut
+readBy zero s a now system = answered (guarded (guardBy zero s) s (readAt (registerAt a) now system s)) (peekOf s a)
+
 unfoldable pub readOf : Iic → ℕ → Time → Clocks → ReadOut
-readOf s a now k = answered (guarded (guardOf s k) s (readAt (registerAt a) now k s)) (peekOf s a)
+readOf s a now k = readBy (hasZero k) s a now (k .system)
+
+abbrev pub writeBy : Bool → Iic → ℕ → ℕ → Time → Domain → Stepped
+writeBy zero s a value now system = guarded (guardBy zero s) s (writeAt (registerAt a) value now system s)
 
 unfoldable pub writeOf : Iic → ℕ → ℕ → Time → Clocks → Stepped
-writeOf s a value now k = guarded (guardOf s k) s (writeAt (registerAt a) value now k s)
+writeOf s a value now k = writeBy (hasZero k) s a value now (k .system)
 
 -- ## Levels: `input_pins`, `pins` (430, 184)
 
 -- levels equal to those held as given change nothing (437)
-unfoldable pub takePinsOf : Levels → Time → Clocks → Iic → Stepped
-takePinsOf given now k s = cond (sameLevels (s .lines .raw) given) (fine s) (scheduleFilterOf now k (setRaw given s))
+unfoldable pub takePinsOf : Levels → Time → Domain → Iic → Stepped
+takePinsOf given now system s = cond (sameLevels (s .lines .raw) given) (fine s) (scheduleFilterOf now system (setRaw given s))
+
+abbrev pub inputPinsBy : Bool → Iic → Bool → Bool → Time → Domain → Noticed
+inputPinsBy zero s scl sda now system =
+    noticed (guarded (guardBy zero s) s (takePinsOf (levels scl sda) now system s)) (observes s (levels scl sda))
 
 unfoldable pub inputPinsOf : Iic → Bool → Bool → Time → Clocks → Noticed
-inputPinsOf s scl sda now k =
-    noticed (guarded (guardOf s k) s (takePinsOf (levels scl sda) now k s)) (observes s (levels scl sda))
+inputPinsOf s scl sda now k = inputPinsBy (hasZero k) s scl sda now (k .system)
 
 abbrev pub pinsOf : Iic → Pins
 pinsOf s = cond (enabled s) (Driven (s .lines .drive)) NoPins
@@ -63,48 +73,56 @@ pinsOf s = cond (enabled s) (Driven (s .lines .drive)) NoPins
 -- ## The gate: `set_gate` (380)
 
 -- a wait that a stretched clock paused stays paused (395)
-unfoldable pub keepStretchedOf : Bool → Time → Clocks → Iic → Stepped
-keepStretchedOf gate now k s = cond (gate && s .flags .«synchronized_hold») (turnClockOf false now k s) (fine s)
+unfoldable pub keepStretchedOf : Bool → Time → Domain → Iic → Stepped
+keepStretchedOf gate now system s = cond (gate && s .flags .«synchronized_hold») (turnClockOf false now system s) (fine s)
 
--- clock, monitor, filter, setup (385 to 409)
+-- clock, monitor, filter, setup (385 to 409); the last two by the set, since they may be on any tap
 unfoldable pub turnWaitsOf : Bool → Time → Clocks → Iic → Stepped
 turnWaitsOf gate now k s =
-    andThen (andThen (andThen (andThen (turnClockOf gate now k s) (turnMonitorOf gate now k)) (keepStretchedOf gate now k))
-    (turnFilterOf gate now k)) (turnSetupOf gate now k)
+    andThen (andThen (andThen (andThen (turnClockOf gate now (k .system) s) (turnMonitorOf gate now (k .system)))
+    (keepStretchedOf gate now (k .system))) (turnFilterOf gate now k)) (turnSetupOf gate now k)
 
 -- a gate that goes on also starts what is due (410)
 abbrev pub gateTurned : Bool → Time → Clocks → Iic → Stepped
 gateTurned gate now k s =
-    cond gate (andThen (andThen (turnWaitsOf gate now k s) (scheduleFilterOf now k)) (kickOf now k)) (turnWaitsOf gate now k s)
+    cond gate (andThen (andThen (turnWaitsOf gate now k s) (scheduleFilterOf now (k .system))) (kickOf now (k .system)))
+    (turnWaitsOf gate now k s)
 
 -- an equal gate changes nothing (381)
 unfoldable pub turnGateOf : Bool → Time → Clocks → Iic → Stepped
 turnGateOf gate now k s = cond (Bool·beq (s .flags .gate) gate) (fine s) (gateTurned gate now k (setGate gate s))
 
 unfoldable pub setGateOf : Iic → Bool → Time → Clocks → Stepped
-setGateOf s gate now k = guarded (guardOf s k) s (turnGateOf gate now k s)
+setGateOf s gate now k = guarded (guardBy (hasZero k) s) s (turnGateOf gate now k s)
 
 -- ## Time: `deadline`, `advance` (445, 463)
 
+-- when the waits end that may be on any tap
+abbrev pub endsOf : Iic → Clocks → Ends
+endsOf s k = record { filter = waitEnd (s .«filter_wait») k; setup = waitEnd (s .«setup_wait») k }
+
 -- the earliest of filter, clock, monitor and setup, refused at the first that is refused
-unfoldable pub earliestOf : Iic → Clocks → Deadline
-earliestOf s k =
-    sooner (waitEnd (s .«filter_wait») k) (sooner (halfEnd (s .«clock_wait») k)
-    (sooner (halfEnd (s .«monitor_wait») k) (waitEnd (s .«setup_wait») k)))
+unfoldable pub earliestOf : Ends → Iic → Domain → Deadline
+earliestOf ends s system =
+    sooner (ends .filter) (sooner (halfEnd (s .«clock_wait») system) (sooner (halfEnd (s .«monitor_wait») system) (ends .setup)))
 
 -- none while the gate is off or the peripheral disabled (446)
+abbrev pub deadlineBy : Bool → Ends → Iic → Domain → Deadline
+deadlineBy zero ends s system = cond zero (deadline.Refused 1) (cond (awake s) (earliestOf ends s system) deadline.Never)
+
 unfoldable pub deadlineOf : Iic → Clocks → Deadline
-deadlineOf s k = cond (hasZero k) (deadline.Refused 1) (cond (awake s) (earliestOf s k) deadline.Never)
+deadlineOf s k = deadlineBy (hasZero k) (endsOf s k) s (k .system)
 
 -- document 01: filter, setup, monitor, clock, each looked at after the one before has acted
 unfoldable pub visitOf : Time → Clocks → Iic → Stepped
 visitOf now k s =
     cond (awake s)
-    (andThen (andThen (andThen (andThen (fireFilterOf now k s) (fireSetupOf now k)) (fireMonitorOf now k)) (fireClockOf now k)) (kickOf now k))
+    (andThen (andThen (andThen (andThen (fireFilterOf (waitEnd (s .«filter_wait») k) now (k .system) s)
+    (λ u. fireSetupOf (waitEnd (u .«setup_wait») k) now u)) (fireMonitorOf now (k .system))) (fireClockOf now (k .system))) (kickOf now (k .system)))
     (fine s)
 
 unfoldable pub advanceOf : Iic → Time → Clocks → Stepped
-advanceOf s now k = guarded (guardOf s k) s (visitOf now k s)
+advanceOf s now k = guarded (guardBy (hasZero k) s) s (visitOf now k s)
 
 -- ## Interrupts: `interrupt_with_enable`, and `interrupt`, which is it with 0 (190, 187)
 

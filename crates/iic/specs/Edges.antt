@@ -1,9 +1,10 @@
 -- Definitions: what filtered levels bring: the falling clock, a condition under way, and `filtered_edges`. Numbers in brackets are lines of
 -- iic.rs.
 use Prim.Native.Nat.{_*_, _+_}
+use Rattle.bus.specs.Bus.{sameLevels}
 use Rattle.bus.specs.declared.Levels.{Levels}
 use Rattle.clocks.specs.Counts.{fits}
-use Rattle.clocks.specs.declared.Clocks.{Clocks}
+use Rattle.clocks.specs.declared.domain.Domain.{Domain}
 use Rattle.frames.specs.declared.Frame.{Frame}
 use Rattle.frames.specs.declared.Framing.the-variants.{InFrame, NoFrame}
 use Rattle.frames.specs.declared.Framing.{Framing}
@@ -24,7 +25,7 @@ use Rattle.waits.specs.Half.{madeHalf}
 use Rattle.waits.specs.Rates.{periodOf}
 use Rattle.waits.specs.declared.MaybeHalf.the-variants.{Half, NoHalf}
 use Rattle.waits.specs.declared.MaybeHalf.{MaybeHalf}
-use mathlib.Core.Bool.{Bool, _&&_, cond, false, not, true}
+use mathlib.Core.Bool.{Bool, _&&_, _||_, cond, false, not, true}
 
 -- ## `falling` (694)
 
@@ -59,34 +60,39 @@ abbrev pub fallOn : Time → Iic → Stepped
 fallOn now s = fallOf now (followOf s)
 
 -- a condition under way is left alone, a command starts, a frame that is through ends (695 to 709)
-unfoldable pub fallingOf : Time → Clocks → Iic → Stepped
-fallingOf now k s =
+unfoldable pub fallingOf : Time → Domain → Iic → Stepped
+fallingOf now system s =
     cond (conditioned s) (fine s)
-    (cond (commanded s) (kickOf now k s) (andThen (kickOf now k (endFrameOf s)) (fallOn now)))
+    (cond (commanded s) (kickOf now system s) (andThen (kickOf now system (endFrameOf s)) (fallOn now)))
 
 -- ## `filtered_edges` (508)
 
 -- SCL is high again: the wait that a stretched clock paused goes on (543)
-unfoldable pub stretchEndsOf : Time → Clocks → Iic → Stepped
-stretchEndsOf now k s =
+unfoldable pub stretchEndsOf : Time → Domain → Iic → Stepped
+stretchEndsOf now system s =
     cond (s .flags .«synchronized_hold» && s .lines .filtered .scl)
-    (turnClockOf true now k (setSynchronizedHold false s)) (fine s)
+    (turnClockOf true now system (setSynchronizedHold false s)) (fine s)
 
 -- a condition under way goes on as the levels have risen (549)
-unfoldable pub conditionStepOf : Time → Clocks → Iic → Stepped
-conditionStepOf now k s = cond (conditionHigh s) (startClockOf now k (raisedOf s)) (fine s)
+unfoldable pub conditionStepOf : Time → Domain → Iic → Stepped
+conditionStepOf now system s = cond (conditionHigh s) (startClockOf now system (raisedOf s)) (fine s)
 
 -- the clock itself rises or falls (557)
-unfoldable pub sclEdgeOf : Bool → Time → Clocks → Iic → Stepped
-sclEdgeOf was now k s =
+unfoldable pub sclEdgeOf : Bool → Time → Domain → Iic → Stepped
+sclEdgeOf was now system s =
     cond (not was && s .lines .filtered .scl) (fine (risingOf (s .lines .filtered .sda) s))
-    (cond (was && not (s .lines .filtered .scl)) (fallingOf now k s) (fine s))
+    (cond (was && not (s .lines .filtered .scl)) (fallingOf now system s) (fine s))
 
 -- nothing more in reset (540)
-abbrev pub edgesFrom : Bool → Time → Clocks → Iic → Stepped
-edgesFrom was now k s =
+abbrev pub edgesFrom : Bool → Time → Domain → Iic → Stepped
+edgesFrom was now system s =
     cond (s .flags .reset) (fine s)
-    (andThen (andThen (stretchEndsOf now k s) (conditionStepOf now k)) (sclEdgeOf was now k))
+    (andThen (andThen (stretchEndsOf now system s) (conditionStepOf now system)) (sclEdgeOf was now system))
 
-unfoldable pub filteredEdgesOf : Levels → Time → Clocks → Iic → Stepped
-filteredEdgesOf old now k s = edgesFrom (old .scl) now k (busEdgeOf old s)
+unfoldable pub filteredEdgesOf : Levels → Time → Domain → Iic → Stepped
+filteredEdgesOf old now system s = edgesFrom (old .scl) now system (busEdgeOf old s)
+
+-- the filtered levels bring something: they have changed, a stretched clock ends, or a condition under way goes on
+abbrev pub edged : Levels → Iic → Bool
+edged old s =
+    not (sameLevels old (s .lines .filtered)) || s .flags .«synchronized_hold» && s .lines .filtered .scl || conditionHigh s

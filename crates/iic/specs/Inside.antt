@@ -1,13 +1,11 @@
 -- Definitions: what functions inside the peripheral promise each other; no definition of a call cites them.
-use Rattle.iic.specs.Answers.{refused}
 use Rattle.iic.specs.declared.Ended.the-variants as ended
 use Rattle.iic.specs.declared.Ended.{Ended}
-use Rattle.iic.specs.declared.Stepped.{Stepped}
 use Rattle.waits.specs.declared.Due.the-variants as due
 use Rattle.waits.specs.declared.Due.{Due}
 use mathlib.Core.Bool.{Bool, false, true}
 use Prim.Native.Nat.{ℕ}
-use Rattle.iic.specs.Registers.{writeAddressOf, writeEnableOf, writeModeOf, writeStatusOf}
+use Rattle.iic.specs.Writing.{writeAddressOf, writeEnableOf, writeModeOf, writeStatusOf}
 use Rattle.iic.specs.declared.Iic.{Iic}
 use Rattle.iic.specs.declared.Register.{Register}
 use Rattle.iic.specs.declared.Register.the-variants.{ICCR1, ICCR2, ICDRR, ICDRT, ICIER, ICMR, ICSR, SAR}
@@ -21,12 +19,6 @@ wentOn (ended.Refused n) = false
 abbrev pub dueAfter : Ended → Due → Due
 dueAfter ended.Finished d = d
 dueAfter (ended.Refused n) d = due.NotNow
-
--- what follows a step where a wait isn't due
-abbrev pub unfired : Due → Stepped → Stepped
-unfired due.Now o = o
-unfired due.NotNow o = o
-unfired (due.Refused n) o = refused n (o .state)
 
 -- what a write of ICMR, ICIER, ICSR or SAR sets; nothing for the other registers
 abbrev pub writePlain : Register → ℕ → Iic → Iic

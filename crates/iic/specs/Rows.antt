@@ -7,15 +7,17 @@ use Rattle.clocks.specs.declared.Clocks.{Clocks}
 use Rattle.frames.specs.Mirror.{mirrorOf, ordered}
 use Rattle.frames.specs.declared.Framing.the-variants.{InFrame}
 use Rattle.frames.specs.declared.Phase.the-variants.{Data}
-use Rattle.iic.specs.Access.{readAt, sendOnOf, writeAt, writeControlOf, writeDataOf}
+use Rattle.iic.specs.Reading.{readAt}
+use Rattle.iic.specs.Writing.{sendOnOf, writeAt, writeControlOf, writeDataOf}
 use Rattle.iic.specs.Answers.{guarded}
-use Rattle.iic.specs.Calls.{guardBy, guardOf, peekOf, pinsOf, readOf, writeOf}
+use Rattle.iic.specs.Calls.{guardBy, peekOf, pinsOf, readOf, writeOf}
 use Rattle.iic.specs.Kick.{kickOf}
 use Rattle.iic.specs.State.{defaultIic, stopShifterOf}
 use Rattle.iic.specs.declared.Iic.{Iic}
 use Rattle.iic.specs.declared.Pins.the-variants.{Driven, NoPins}
 use Rattle.iic.specs.declared.Pins.{Pins}
-use Rattle.iic.specs.Registers.{controlSet, giveDataOf, peekAt, redirected, registerAt, takeControlOf, writeEnableOf, writeModeOf, writeStatusOf}
+use Rattle.iic.specs.Reading.{peekAt, registerAt}
+use Rattle.iic.specs.Writing.{controlSet, giveDataOf, redirected, takeControlOf, writeEnableOf, writeModeOf, writeStatusOf}
 use Rattle.iic.specs.Setters.{setAddress, setFrame}
 use Rattle.iic.specs.Shift.{addressedOf, lastBitOf, matchedOf, risingDataOf, risingOf, selectOf, whenLostOf}
 use Rattle.time.specs.Clock.{afterOf, edgeOf, edgesBeforeOf, zeroIn}
@@ -109,12 +111,12 @@ module _ (now : Time) (k : Clocks) where
   -- the same with the test for a zero clock open
   abbrev rowsBy : Bool → List Row
   rowsBy z =
-      rowsOf (λ a v s. guarded (guardBy z s) s (writeAt (registerAt a) v now k s) .state)
-      (λ a s. guarded (guardBy z s) s (readAt (registerAt a) now k s) .state)
+      rowsOf (λ a v s. guarded (guardBy z s) s (writeAt (registerAt a) v now (k .system) s) .state)
+      (λ a s. guarded (guardBy z s) s (readAt (registerAt a) now (k .system) s) .state)
 
   -- every row shows what document 01 has, over any clock set without a zero, at any time
   pub rows-hold : hasZero k ≡ false → AllHold rows
-  unfolding rowsOf registerAt peekAt readAt writeAt controlSet redirected takeControlOf writeControlOf writeModeOf writeEnableOf writeStatusOf giveDataOf sendOnOf writeDataOf guardOf peekOf readOf writeOf kickOf mirrorOf ordered risingOf risingDataOf whenLostOf lastBitOf addressedOf matchedOf selectOf defaultIic stopShifterOf rate periodOf afterOf edgeOf momentOf zeroIn domainTicks nextTime edgesBeforeOf
+  unfolding rowsOf registerAt peekAt readAt writeAt controlSet redirected takeControlOf writeControlOf writeModeOf writeEnableOf writeStatusOf giveDataOf sendOnOf writeDataOf peekOf readOf writeOf kickOf mirrorOf ordered risingOf risingDataOf whenLostOf lastBitOf addressedOf matchedOf selectOf defaultIic stopShifterOf rate periodOf afterOf edgeOf momentOf zeroIn domainTicks nextTime edgesBeforeOf
   rows-hold free =
       subst (λ (z : Bool). AllHold (rowsBy z)) (sym free)
       (rw (edges-before-is third 0x5555555555555555 (lit< tt) (lit< tt), edges-before-is third 0x5555555555555556 (lit< tt) (lit< tt)) refl)

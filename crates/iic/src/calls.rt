@@ -1,7 +1,8 @@
 // The eleven calls of the peripheral's host, each with its answer and, where it may change the state, the next one.
 ghost use mathlib.Core.Path.{_≡_};
-ghost use Rattle.iic.specs.Answers.{andThen, fine, guarded};
-ghost use Rattle.iic.specs.Calls.{guardOf, peekOf, readOf, writeOf, takePinsOf, inputPinsOf, pinsOf, keepStretchedOf, turnGateOf, setGateOf, deadlineOf, visitOf, advanceOf, interruptWithEnableOf, firstOf, validateOf};
+ghost use Rattle.iic.specs.Answers.{andThen};
+ghost use Rattle.iic.specs.Calls.{advanceOf, deadlineOf, endsOf, firstOf, guardBy, inputPinsOf, interruptWithEnableOf, keepStretchedOf, peekOf, pinsOf, readOf, setGateOf, turnGateOf, turnWaitsOf, validateOf, writeOf};
+use super::Ends;
 use super::Iic;
 use super::Noticed;
 use super::Pins;
@@ -16,11 +17,10 @@ use super::bits::RDRF;
 use super::bits::STOP;
 use super::bits::TDRE;
 use super::bits::TEND;
-use bus::Levels;
 use clocks::Clocks;
+use clocks::domain::Domain;
 use clocks::wait::Deadline;
 use time::Time;
-use waits::ends::sooner;
 
 // The first of two refusals.
 fn first_of(a: u8, b: u8) -> u8
@@ -31,20 +31,20 @@ fn first_of(a: u8, b: u8) -> u8
 }
 
 impl Iic {
-    // 1, 9 or 10 stands before a call.
-    fn guarded(self, clocks: Clocks) -> Stepped
-        ensures { λ r. ⌜ r ≡ guarded (guardOf self clocks) self (fine self) ⌝ }
+    // 1 where a clock of the set holds a zero, then 9 and 10, stand before a call; 0 for none.
+    pub(crate) fn guard(self, zero: bool) -> u8
+        ensures { λ r. ⌜ r ≡ guardBy zero self ⌝ }
     {
-        if clocks.has_zero() {
-            return self.refused(1);
+        if zero {
+            return 1;
         }
         if !self.ranges_hold() {
-            return self.refused(9);
+            return 9;
         }
         if !self.progress() {
-            return self.refused(10);
+            return 10;
         }
-        self.fine()
+        0
     }
 
     // What a register shows.
@@ -57,38 +57,20 @@ impl Iic {
     pub fn read(mut self, address: u16, now: Time, clocks: Clocks) -> ReadOut
         ensures { λ r. ⌜ r ≡ readOf self address now clocks ⌝ }
     {
-        let value = self.peek(address);
-        let mut next = self.guarded(clocks);
-        next = next.read_at(Register::at(address), now, clocks);
-        let ended = next.ended;
-        self = next.state;
-        ReadOut {
-            answer: ended.byte(value),
-            state: self,
-        }
+        self.read_by(clocks.has_zero(), address, now, clocks.system)
     }
 
-    pub fn write(self, address: u16, value: u8, now: Time, clocks: Clocks) -> Stepped
+    pub fn write(mut self, address: u16, value: u8, now: Time, clocks: Clocks) -> Stepped
         ensures { λ r. ⌜ r ≡ writeOf self address value now clocks ⌝ }
     {
-        let guarded = self.guarded(clocks);
-        guarded.write_at(Register::at(address), value, now, clocks)
+        self.write_by(clocks.has_zero(), address, value, now, clocks.system)
     }
 
     // The levels of the lines, as given.
     pub fn input_pins(mut self, scl: bool, sda: bool, now: Time, clocks: Clocks) -> Noticed
         ensures { λ r. ⌜ r ≡ inputPinsOf self scl sda now clocks ⌝ }
     {
-        let given = Levels { scl, sda };
-        let value = self.observes(given);
-        let mut next = self.guarded(clocks);
-        next = next.take_pins(given, now, clocks);
-        let ended = next.ended;
-        self = next.state;
-        Noticed {
-            answer: ended.truth(value),
-            state: self,
-        }
+        self.input_pins_by(clocks.has_zero(), scl, sda, now, clocks.system)
     }
 
     // What the peripheral drives.
@@ -103,40 +85,70 @@ impl Iic {
         Pins::NoPins
     }
 
+    // Clock, monitor, filter and setup resume or pause.
+    fn turn_waits(self, gate: bool, now: Time, clocks: Clocks) -> Stepped
+        ensures { λ r. ⌜ r ≡ turnWaitsOf gate now clocks self ⌝ }
+    {
+        let mut next = self.fine();
+        next = next.turn_clock(gate, now, clocks.system);
+        next = next.turn_monitor(gate, now, clocks.system);
+        next = next.keep_stretched(gate, now, clocks.system);
+        next = next.turn_filter(gate, now, clocks);
+        next.turn_setup(gate, now, clocks)
+    }
+
+    fn turn_gate(mut self, gate: bool, now: Time, clocks: Clocks) -> Stepped
+        ensures { λ r. ⌜ r ≡ turnGateOf gate now clocks self ⌝ }
+    {
+        let same = self.flags.gate == gate;
+        if same {
+            return self.fine();
+        }
+        self.flags.gate = gate;
+        let mut next = self.turn_waits(gate, now, clocks);
+        if gate {
+            next = next.schedule_filter(now, clocks.system);
+            next = next.kick(now, clocks.system);
+        }
+        next
+    }
+
     // Whether the peripheral's clock runs.
-    pub fn set_gate(self, gate: bool, now: Time, clocks: Clocks) -> Stepped
+    pub fn set_gate(mut self, gate: bool, now: Time, clocks: Clocks) -> Stepped
         ensures { λ r. ⌜ r ≡ setGateOf self gate now clocks ⌝ }
     {
-        let guarded = self.guarded(clocks);
-        guarded.turn_gate(gate, now, clocks)
+        let refusal = self.guard(clocks.has_zero());
+        let stands = refusal != 0;
+        if stands {
+            return self.refused(refusal);
+        }
+        self.turn_gate(gate, now, clocks)
+    }
+
+    // When the waits end that may be on any tap.
+    fn ends(self, clocks: Clocks) -> Ends
+        ensures { λ r. ⌜ r ≡ endsOf self clocks ⌝ }
+    {
+        let filter_wait = self.filter_wait;
+        let setup_wait = self.setup_wait;
+        Ends {
+            filter: filter_wait.end(clocks),
+            setup: setup_wait.end(clocks),
+        }
     }
 
     // The time of the next visit.
     pub fn deadline(self, clocks: Clocks) -> Deadline
         ensures { λ r. ⌜ r ≡ deadlineOf self clocks ⌝ }
     {
-        if clocks.has_zero() {
-            return Deadline::Refused(1);
-        }
-        let mut next = Deadline::Never;
-        if self.awake() {
-            let clock_wait = self.clock_wait;
-            let monitor_wait = self.monitor_wait;
-            let filter_wait = self.filter_wait;
-            let setup_wait = self.setup_wait;
-            next = sooner(monitor_wait.half_end(clocks), setup_wait.end(clocks));
-            next = sooner(clock_wait.half_end(clocks), next);
-            next = sooner(filter_wait.end(clocks), next);
-        }
-        next
+        self.deadline_by(clocks.has_zero(), self.ends(clocks), clocks.system)
     }
 
     // A visit: waits whose time is now fire.
-    pub fn advance(self, now: Time, clocks: Clocks) -> Stepped
+    pub fn advance(mut self, now: Time, clocks: Clocks) -> Stepped
         ensures { λ r. ⌜ r ≡ advanceOf self now clocks ⌝ }
     {
-        let guarded = self.guarded(clocks);
-        guarded.visit(now, clocks)
+        self.advance_by(clocks.has_zero(), self.ends(clocks), now, clocks.system)
     }
 
     // Whether an interrupt is asked for.
@@ -179,60 +191,13 @@ impl Iic {
 }
 
 impl Stepped {
-    fn take_pins(mut self, given: Levels, now: Time, clocks: Clocks) -> Stepped
-        ensures { λ r. ⌜ r ≡ andThen self (takePinsOf given now clocks) ⌝ }
-    {
-        let state = self.state;
-        let lines = state.lines;
-        let raw = lines.raw;
-        let changes = self.went_on() & !bus::same_levels(raw, given);
-        if changes {
-            self.state.lines.raw.scl = given.scl;
-            self.state.lines.raw.sda = given.sda;
-            self = self.schedule_filter(now, clocks);
-        }
-        self
-    }
-
     // A wait that a stretched clock paused stays paused.
-    fn keep_stretched(mut self, gate: bool, now: Time, clocks: Clocks) -> Stepped
-        ensures { λ r. ⌜ r ≡ andThen self (keepStretchedOf gate now clocks) ⌝ }
+    fn keep_stretched(mut self, gate: bool, now: Time, system: Domain) -> Stepped
+        ensures { λ r. ⌜ r ≡ andThen self (keepStretchedOf gate now system) ⌝ }
     {
         let stays = gate & self.state.flags.synchronized_hold;
         if stays {
-            self = self.turn_clock(false, now, clocks);
-        }
-        self
-    }
-
-    fn turn_gate(mut self, gate: bool, now: Time, clocks: Clocks) -> Stepped
-        ensures { λ r. ⌜ r ≡ andThen self (turnGateOf gate now clocks) ⌝ }
-    {
-        let turns = self.went_on() & (self.state.flags.gate != gate);
-        if turns {
-            self.state.flags.gate = gate;
-            self = self.turn_clock(gate, now, clocks);
-            self = self.turn_monitor(gate, now, clocks);
-            self = self.keep_stretched(gate, now, clocks);
-            self = self.turn_filter(gate, now, clocks);
-            self = self.turn_setup(gate, now, clocks);
-            if gate {
-                self = self.schedule_filter(now, clocks);
-                self = self.kick(now, clocks);
-            }
-        }
-        self
-    }
-
-    fn visit(mut self, now: Time, clocks: Clocks) -> Stepped
-        ensures { λ r. ⌜ r ≡ andThen self (visitOf now clocks) ⌝ }
-    {
-        if self.state.awake() {
-            self = self.fire_filter(now, clocks);
-            self = self.fire_setup(now, clocks);
-            self = self.fire_monitor(now, clocks);
-            self = self.fire_clock(now, clocks);
-            self = self.kick(now, clocks);
+            self = self.turn_clock(false, now, system);
         }
         self
     }

@@ -1,12 +1,12 @@
 // What filtered levels bring: the edges of the clock, and a condition under way.
 ghost use mathlib.Core.Path.{_≡_};
 ghost use Rattle.iic.specs.Answers.{andThen};
-ghost use Rattle.iic.specs.Edges.{longer, fallAt, fallOn, fallingOf, stretchEndsOf, conditionStepOf, sclEdgeOf, filteredEdgesOf};
+ghost use Rattle.iic.specs.Edges.{edged, longer, fallAt, fallOn, fallingOf, stretchEndsOf, conditionStepOf, sclEdgeOf, filteredEdgesOf};
 use super::Iic;
 use super::Stepped;
 use bus::Levels;
-use clocks::Clocks;
 use clocks::counts::checked_add;
+use clocks::domain::Domain;
 use frames::Frame;
 use frames::Framing;
 use frames::Phase;
@@ -50,44 +50,55 @@ impl Iic {
     }
 
     // The clock has fallen: SDA shows the next bit.
-    fn falling(mut self, now: Time, clocks: Clocks) -> Stepped
-        ensures { λ r. ⌜ r ≡ fallingOf now clocks self ⌝ }
+    fn falling(mut self, now: Time, system: Domain) -> Stepped
+        ensures { λ r. ⌜ r ≡ fallingOf now system self ⌝ }
     {
         if self.conditioned() {
             return self.fine();
         }
         let mut next = self.fine();
         if self.commanded() {
-            return next.kick(now, clocks);
+            return next.kick(now, system);
         }
         self = self.end_frame();
         next = self.fine();
-        next = next.kick(now, clocks);
+        next = next.kick(now, system);
         next.fall(now)
     }
 
     // SCL is high again: the wait that a stretched clock paused goes on.
-    fn stretch_ends(mut self, now: Time, clocks: Clocks) -> Stepped
-        ensures { λ r. ⌜ r ≡ stretchEndsOf now clocks self ⌝ }
+    fn stretch_ends(mut self, now: Time, system: Domain) -> Stepped
+        ensures { λ r. ⌜ r ≡ stretchEndsOf now system self ⌝ }
     {
         let ends = self.flags.synchronized_hold & self.lines.filtered.scl;
         if ends {
             self.flags.synchronized_hold = false;
-            return self.fine().turn_clock(true, now, clocks);
+            return self.fine().turn_clock(true, now, system);
         }
         self.fine()
     }
 
-    pub(crate) fn filtered_edges(mut self, old: Levels, now: Time, clocks: Clocks) -> Stepped
-        ensures { λ r. ⌜ r ≡ filteredEdgesOf old now clocks self ⌝ }
+    // Whether filtered levels bring anything: they have changed, a stretched clock ends, or a condition goes on.
+    pub(crate) fn edged(self, old: Levels) -> bool
+        ensures { λ r. ⌜ r ≡ edged old self ⌝ }
+    {
+        let lines = self.lines;
+        let new = lines.filtered;
+        !bus::same_levels(old, new)
+            | (self.flags.synchronized_hold & self.lines.filtered.scl)
+            | self.condition_high()
+    }
+
+    pub(crate) fn filtered_edges(mut self, old: Levels, now: Time, system: Domain) -> Stepped
+        ensures { λ r. ⌜ r ≡ filteredEdgesOf old now system self ⌝ }
     {
         self = self.bus_edge(old);
         if self.flags.reset {
             return self.fine();
         }
-        let mut next = self.stretch_ends(now, clocks);
-        next = next.condition_step(now, clocks);
-        next.scl_edge(old.scl, now, clocks)
+        let mut next = self.stretch_ends(now, system);
+        next = next.condition_step(now, system);
+        next.scl_edge(old.scl, now, system)
     }
 }
 
@@ -108,25 +119,25 @@ impl Stepped {
     }
 
     // A condition under way goes on as the levels have risen.
-    fn condition_step(mut self, now: Time, clocks: Clocks) -> Stepped
-        ensures { λ r. ⌜ r ≡ andThen self (conditionStepOf now clocks) ⌝ }
+    fn condition_step(mut self, now: Time, system: Domain) -> Stepped
+        ensures { λ r. ⌜ r ≡ andThen self (conditionStepOf now system) ⌝ }
     {
         let goes = self.went_on() & self.state.condition_high();
         if goes {
             let mut state = self.state;
             state = state.raise_condition();
-            self = state.start_clock(now, clocks);
+            self = state.start_clock(now, system);
         }
         self
     }
 
-    fn scl_edge(mut self, was: bool, now: Time, clocks: Clocks) -> Stepped
-        ensures { λ r. ⌜ r ≡ andThen self (sclEdgeOf was now clocks) ⌝ }
+    fn scl_edge(mut self, was: bool, now: Time, system: Domain) -> Stepped
+        ensures { λ r. ⌜ r ≡ andThen self (sclEdgeOf was now system) ⌝ }
     {
         let moved = self.went_on() & (self.state.lines.filtered.scl != was);
         if moved {
             if was {
-                self = self.state.falling(now, clocks);
+                self = self.state.falling(now, system);
             } else {
                 let sda = self.state.lines.filtered.sda;
                 self = self.state.rising(sda).fine();

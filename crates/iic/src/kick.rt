@@ -1,35 +1,37 @@
 // The step that starts what is due: a condition, a frame, a clock; and the end of a hold.
 ghost use mathlib.Core.Path.{_≡_};
 ghost use Rattle.iic.specs.Answers.{fine, andThen};
+ghost use Rattle.iic.specs.Inside.{wentOn};
 ghost use Rattle.iic.specs.Kick.{beginConditionOf, clockFrameOf, kickOf, releaseHoldOf};
 ghost use Rattle.iic.specs.Waiting.{startSetupOf};
 ghost use Rattle.iic.specs.Ready.{showOf};
+ghost use Rattle.iic.specs.Settled.{settled};
+ghost use mathlib.Core.Bool.{_&&_, false, not};
 use super::Command;
 use super::Hold;
 use super::Iic;
 use super::Stepped;
-use clocks::Clocks;
-use clocks::tap::Tap;
+use clocks::domain::Domain;
 use clocks::wait::ClockWait;
 use frames::Framing;
 use time::Time;
 use waits::rates::setup_cycles;
 
 impl Iic {
-    fn begin_condition(mut self, now: Time, clocks: Clocks) -> Stepped
-        ensures { λ r. ⌜ r ≡ beginConditionOf now clocks self ⌝ }
+    fn begin_condition(mut self, now: Time, system: Domain) -> Stepped
+        ensures { λ r. ⌜ r ≡ beginConditionOf now system self ⌝ }
     {
         let command = self.command;
         let Command::Commanded(start) = command else {
             return self.fine();
         };
         self = self.begun(start);
-        self.start_clock(now, clocks)
+        self.start_clock(now, system)
     }
 
     // SCL goes low for the next bit of a frame, or is held until there is a byte.
-    fn clock_frame(mut self, now: Time, clocks: Clocks) -> Stepped
-        ensures { λ r. ⌜ r ≡ clockFrameOf now clocks self ⌝ }
+    fn clock_frame(mut self, now: Time, system: Domain) -> Stepped
+        ensures { λ r. ⌜ r ≡ clockFrameOf now system self ⌝ }
     {
         let frame = self.frame;
         let Framing::InFrame(f) = frame else {
@@ -47,44 +49,57 @@ impl Iic {
             return self.fine();
         }
         self = self.low_half(self.level(f));
-        self.start_clock(now, clocks)
+        self.start_clock(now, system)
     }
 
-    fn start_setup(self, now: Time, clocks: Clocks) -> Stepped
-        ensures { λ r. ⌜ r ≡ startSetupOf now clocks self ⌝ }
+    // What is due, on a state that isn't settled.
+    pub(crate) fn start_due(mut self, now: Time, system: Domain) -> Stepped
+        requires { ⌜ settled self ≡ false ⌝ }
+        ensures { λ r. ⌜ r ≡ kickOf now system self ⌝ }
+    {
+        if self.command_ready() {
+            return self.begin_condition(now, system);
+        }
+        self = self.next_frame();
+        self = self.load_transmit();
+        self.clock_frame(now, system)
+    }
+
+    fn start_setup(self, now: Time, system: Domain) -> Stepped
+        ensures { λ r. ⌜ r ≡ startSetupOf now system self ⌝ }
     {
         let cycles = setup_cycles(self.registers.control) as u64;
-        self.setup_from(ClockWait::after(now, cycles, Tap::system(1), clocks))
+        self.setup_from(ClockWait::system_after(now, cycles, system))
     }
 
     // A register was served: SCL goes on after a wait.
-    pub(crate) fn release_hold(mut self, now: Time, clocks: Clocks) -> Stepped
-        ensures { λ r. ⌜ r ≡ releaseHoldOf now clocks self ⌝ }
+    pub(crate) fn release_hold(mut self, now: Time, system: Domain) -> Stepped
+        ensures { λ r. ⌜ r ≡ releaseHoldOf now system self ⌝ }
     {
         self = self.with_hold(Hold::NoHold);
         if self.master() {
-            return self.start_clock(now, clocks).show();
+            return self.start_clock(now, system).show();
         }
-        self.start_setup(now, clocks).show()
+        self.start_setup(now, system).show()
     }
 }
 
 impl Stepped {
-    // Starts what is due.
-    pub(crate) fn kick(self, now: Time, clocks: Clocks) -> Stepped
-        ensures { λ r. ⌜ r ≡ andThen self (kickOf now clocks) ⌝ }
+    // Whether something is due, and nothing was refused.
+    pub(crate) fn kicks(self) -> bool
+        ensures { λ r. ⌜ r ≡ (wentOn (self .ended) && not (settled (self .state))) ⌝ }
     {
-        let starts = self.went_on() & self.state.ready();
-        if !starts {
-            return self;
+        self.went_on() & !self.state.settled()
+    }
+
+    // Starts what is due.
+    pub(crate) fn kick(self, now: Time, system: Domain) -> Stepped
+        ensures { λ r. ⌜ r ≡ andThen self (kickOf now system) ⌝ }
+    {
+        if self.kicks() {
+            return self.state.start_due(now, system);
         }
-        let mut state = self.state;
-        if state.command_ready() {
-            return state.begin_condition(now, clocks);
-        }
-        state = state.next_frame();
-        state = state.load_transmit();
-        state.clock_frame(now, clocks)
+        self
     }
 
     fn show(mut self) -> Stepped

@@ -1,5 +1,4 @@
 // The I2C peripheral (IIC2) of the H8/38602R: its state, its steps and the eleven calls of its host, by value.
-pub mod access;
 pub mod answers;
 pub mod bits;
 pub mod calls;
@@ -10,6 +9,7 @@ pub mod edges;
 pub mod falls;
 pub mod filter;
 pub mod kick;
+pub mod over;
 pub mod reading;
 pub mod ready;
 pub mod shift;
@@ -19,6 +19,7 @@ pub mod writing;
 
 use bus::Levels;
 use clocks::Truth;
+use clocks::wait::Deadline;
 use frames::Framing;
 use time::Time;
 use waits::MaybeHalf;
@@ -118,6 +119,12 @@ pub enum Register {
 pub enum Ended {
     Finished,
     Refused(u8),
+}
+
+// When the waits of the filter and of the setup end, which may be on any tap.
+pub struct Ends {
+    pub filter: Deadline,
+    pub setup: Deadline,
 }
 
 // How a step ended, and the state at that point.

@@ -1,9 +1,10 @@
-// The registers as the host reads them.
+// The registers as the host reads them, with what follows in time.
 ghost use mathlib.Core.Path.{_≡_};
-ghost use Rattle.iic.specs.Registers.{continuedOf, fellNow, peekAt, registerAt, shownControl, takenOf};
+ghost use Rattle.iic.specs.Reading.{continuedOf, fellNow, peekAt, readAt, readDataOf, registerAt, shownControl, takenOf};
 use super::EighthFall;
 use super::Iic;
 use super::Register;
+use super::Stepped;
 use super::bits::BBSY;
 use super::bits::BCWP;
 use super::bits::IICRST;
@@ -14,6 +15,7 @@ use super::bits::SCLO;
 use super::bits::SCP;
 use super::bits::SDAO;
 use super::bits::SDAOP;
+use clocks::domain::Domain;
 use time::Time;
 
 impl Register {
@@ -102,5 +104,34 @@ impl Iic {
             self = self.with_frame(frame.marked_in(last));
         }
         self
+    }
+
+    fn read_data(mut self, now: Time, system: Domain) -> Stepped
+        ensures { λ r. ⌜ r ≡ readDataOf now system self ⌝ }
+    {
+        self = self.taken(now);
+        if self.transmit() {
+            return self.fine();
+        }
+        self = self.continued();
+        let mut next = self.fine();
+        if self.held() {
+            next = self.release_hold(now, system);
+        }
+        next.kick(now, system)
+    }
+
+    pub(crate) fn read_at(mut self, register: Register, now: Time, system: Domain) -> Stepped
+        ensures { λ r. ⌜ r ≡ readAt register now system self ⌝ }
+    {
+        match register {
+            Register::ICSR => {
+                let status = self.registers.status;
+                self.registers.seen = status;
+                self.fine()
+            }
+            Register::ICDRR => self.read_data(now, system),
+            _ => self.fine(),
+        }
     }
 }

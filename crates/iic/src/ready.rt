@@ -1,11 +1,13 @@
 // What is due next: a condition, a frame, a clock, and the level that it shows.
 ghost use mathlib.Core.Path.{_≡_};
-ghost use Rattle.iic.specs.Ready.{clockDue, commandReady, levelAt, lowHalfOf, nextFrameOf, ready, releasedLevel, showOf};
+ghost use Rattle.iic.specs.Ready.{clockDue, commandReady, frameDue, levelAt, lowHalfOf, nextFrameOf, ready, releasedLevel, showOf};
+ghost use Rattle.iic.specs.Settled.{atRest, settled};
 use super::Iic;
 use super::bits::ACKBT;
 use super::bits::FS;
 use super::bits::MST;
 use super::bits::NACKF;
+use super::bits::TDRE;
 use super::bits::TRS;
 use frames::Frame;
 use frames::Framing;
@@ -24,9 +26,8 @@ impl Iic {
         self.commanded() & (!self.framed() | !self.lines.filtered.scl)
     }
 
-    // A frame begins where one is due.
-    pub(crate) fn next_frame(mut self) -> Iic
-        ensures { λ r. ⌜ r ≡ nextFrameOf self ⌝ }
+    fn frame_due(self) -> bool
+        ensures { λ r. ⌜ r ≡ frameDue self ⌝ }
     {
         let sync = self.registers.address & FS != 0;
         let master = self.registers.control & MST != 0;
@@ -36,11 +37,42 @@ impl Iic {
             & !(self.registers.status & NACKF != 0);
         let can_receive = !transmit
             & ((master & self.flags.receive_enabled) | (!master & (self.flags.selected | sync)));
-        let due = !self.framed() & (self.flags.busy | sync) & (can_transmit | can_receive);
-        if due {
+        !self.framed() & (self.flags.busy | sync) & (can_transmit | can_receive)
+    }
+
+    // A frame begins where one is due.
+    pub(crate) fn next_frame(mut self) -> Iic
+        ensures { λ r. ⌜ r ≡ nextFrameOf self ⌝ }
+    {
+        if self.frame_due() {
             self = self.begin_frame(false);
         }
         self
+    }
+
+    // No frame is due, no byte for the frame, and no clock for it.
+    fn at_rest(self) -> bool
+        ensures { λ r. ⌜ r ≡ atRest self ⌝ }
+    {
+        let rests = !self.frame_due();
+        let clocks = self.clock_due();
+        let frame = self.frame;
+        let Framing::InFrame(f) = frame else {
+            return rests;
+        };
+        let phase = f.phase;
+        let empty = self.registers.status & TDRE != 0;
+        let sync = self.registers.address & FS != 0;
+        let starved = f.starved();
+        rests & (!(starved & !empty) & (!clocks | (phase.is_done() | (starved & sync))))
+    }
+
+    // `kick` would start nothing.
+    pub(crate) fn settled(self) -> bool
+        ensures { λ r. ⌜ r ≡ settled self ⌝ }
+    {
+        let command = self.command_ready();
+        !self.ready() | (!command & self.at_rest())
     }
 
     pub(crate) fn clock_due(self) -> bool

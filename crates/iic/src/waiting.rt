@@ -1,11 +1,13 @@
 // How the four waits of a state start, pause and resume.
+ghost use mathlib.Core.Bool.{_&&_};
 ghost use mathlib.Core.Path.{_≡_};
 ghost use Rattle.iic.specs.Answers.{andThen};
-ghost use Rattle.iic.specs.Waiting.{clockFrom, monitorFrom, filterFrom, setupFrom, startClockOf, wantsFilter, scheduleFilterOf, turnClockOf, turnMonitorOf, turnFilterOf, turnSetupOf};
+ghost use Rattle.iic.specs.Inside.{wentOn};
+ghost use Rattle.iic.specs.Waiting.{startFilterOf, clockFrom, monitorFrom, filterFrom, setupFrom, startClockOf, wantsFilter, scheduleFilterOf, turnClockOf, turnMonitorOf, turnFilterOf, turnSetupOf};
 use super::Iic;
 use super::Stepped;
 use clocks::Clocks;
-use clocks::tap::Tap;
+use clocks::domain::Domain;
 use clocks::wait::ClockWait;
 use clocks::wait::NewWait;
 use time::Time;
@@ -73,15 +75,22 @@ impl Iic {
     }
 
     // The clock's wait starts, or the state stays as it is at this point.
-    pub(crate) fn start_clock(self, now: Time, clocks: Clocks) -> Stepped
-        ensures { λ r. ⌜ r ≡ startClockOf now clocks self ⌝ }
+    pub(crate) fn start_clock(self, now: Time, system: Domain) -> Stepped
+        ensures { λ r. ⌜ r ≡ startClockOf now system self ⌝ }
     {
         let halves = period(self.registers.control) as u64;
-        self.clock_from(HalfWait::after(now, halves, clocks))
+        self.clock_from(HalfWait::after(now, halves, system))
+    }
+
+    // The filter's wait starts.
+    pub(crate) fn start_filter(self, now: Time, system: Domain) -> Stepped
+        ensures { λ r. ⌜ r ≡ startFilterOf now system self ⌝ }
+    {
+        self.filter_from(ClockWait::system_after(now, 1, system))
     }
 
     // A level is still on its way through the filter, and nothing waits for it.
-    fn wants_filter(self) -> bool
+    pub(crate) fn wants_filter(self) -> bool
         ensures { λ r. ⌜ r ≡ wantsFilter self ⌝ }
     {
         let filter_wait = self.filter_wait;
@@ -90,40 +99,45 @@ impl Iic {
 }
 
 impl Stepped {
-    // The filter's wait starts where it is wanted.
-    pub(crate) fn schedule_filter(self, now: Time, clocks: Clocks) -> Stepped
-        ensures { λ r. ⌜ r ≡ andThen self (scheduleFilterOf now clocks) ⌝ }
+    // Whether a filter's wait is wanted, and nothing was refused.
+    pub(crate) fn wants_filter(self) -> bool
+        ensures { λ r. ⌜ r ≡ (wentOn (self .ended) && wantsFilter (self .state)) ⌝ }
     {
-        let starts = self.went_on() & self.state.wants_filter();
-        if !starts {
-            return self;
+        self.went_on() & self.state.wants_filter()
+    }
+
+    // The filter's wait starts where it is wanted.
+    pub(crate) fn schedule_filter(mut self, now: Time, system: Domain) -> Stepped
+        ensures { λ r. ⌜ r ≡ andThen self (scheduleFilterOf now system) ⌝ }
+    {
+        if self.wants_filter() {
+            self = self.state.start_filter(now, system);
         }
-        self.state
-            .filter_from(ClockWait::after(now, 1, Tap::system(1), clocks))
+        self
     }
 
     // The clock's wait resumes (true) or pauses (false).
-    pub(crate) fn turn_clock(mut self, gate: bool, now: Time, clocks: Clocks) -> Stepped
-        ensures { λ r. ⌜ r ≡ andThen self (turnClockOf gate now clocks) ⌝ }
+    pub(crate) fn turn_clock(mut self, gate: bool, now: Time, system: Domain) -> Stepped
+        ensures { λ r. ⌜ r ≡ andThen self (turnClockOf gate now system) ⌝ }
     {
         let state = self.state;
         let clock_wait = state.clock_wait;
         if let MaybeHalf::Half(w) = clock_wait {
             if self.went_on() {
-                self = self.state.clock_from(turn_half(gate, now, clocks, w));
+                self = self.state.clock_from(turn_half(gate, now, system, w));
             }
         }
         self
     }
 
-    pub(crate) fn turn_monitor(mut self, gate: bool, now: Time, clocks: Clocks) -> Stepped
-        ensures { λ r. ⌜ r ≡ andThen self (turnMonitorOf gate now clocks) ⌝ }
+    pub(crate) fn turn_monitor(mut self, gate: bool, now: Time, system: Domain) -> Stepped
+        ensures { λ r. ⌜ r ≡ andThen self (turnMonitorOf gate now system) ⌝ }
     {
         let state = self.state;
         let monitor_wait = state.monitor_wait;
         if let MaybeHalf::Half(w) = monitor_wait {
             if self.went_on() {
-                self = self.state.monitor_from(turn_half(gate, now, clocks, w));
+                self = self.state.monitor_from(turn_half(gate, now, system, w));
             }
         }
         self

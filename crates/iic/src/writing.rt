@@ -1,9 +1,12 @@
-// The registers as the host writes them.
+// The registers as the host writes them, with what follows in time.
 ghost use mathlib.Core.Path.{_≡_};
-ghost use Rattle.iic.specs.Registers.{enterResetOf, giveDataOf, pullSdaOf, redirected, stopReceiveOf, takeControlOf, takesCommand, writeModeOf};
+ghost use Rattle.iic.specs.Answers.{andThen, fine};
+ghost use Rattle.iic.specs.Writing.{enterResetOf, giveDataOf, pullSdaOf, redirected, stopReceiveOf, takeControlOf, takesCommand, writeAt, writeCommandOf, writeControlOf, writeDataOf, writeModeOf};
 ghost use Rattle.iic.specs.Inside.{writePlain};
+use super::Command;
 use super::Iic;
 use super::Register;
+use super::Stepped;
 use super::bits::ACKBR;
 use super::bits::ACKE;
 use super::bits::BBSY;
@@ -11,6 +14,7 @@ use super::bits::BC;
 use super::bits::BCWP;
 use super::bits::FS;
 use super::bits::ICE;
+use super::bits::IICRST;
 use super::bits::MLS;
 use super::bits::MST;
 use super::bits::RCVD;
@@ -21,7 +25,10 @@ use super::bits::TDRE;
 use super::bits::TEND;
 use super::bits::TRS;
 use super::bits::WAIT;
+use clocks::domain::Domain;
 use frames::mirror::ordered;
+use time::Time;
+use waits::MaybeWait;
 
 impl Iic {
     fn redirect(mut self, value: u8) -> Iic
@@ -157,6 +164,84 @@ impl Iic {
         self.registers.status = status;
         let seen = self.registers.seen & !(TDRE | TEND);
         self.registers.seen = seen;
+        self
+    }
+
+    fn write_control(mut self, value: u8, now: Time, system: Domain) -> Stepped
+        ensures { λ r. ⌜ r ≡ writeControlOf value now system self ⌝ }
+    {
+        self = self.take_control(value);
+        if self.enabled() {
+            let mut next = self.fine();
+            next = next.schedule_filter(now, system);
+            next = next.stop_receive();
+            return next.kick(now, system);
+        }
+        self = self.stop_shifter();
+        self = self.with_filter_wait(MaybeWait::NoWait);
+        self.fine()
+    }
+
+    fn write_command(mut self, value: u8, now: Time, system: Domain) -> Stepped
+        ensures { λ r. ⌜ r ≡ writeCommandOf value now system self ⌝ }
+    {
+        let resets = value & IICRST != 0;
+        if resets {
+            return self.enter_reset().fine();
+        }
+        if self.flags.reset {
+            self.flags.reset = false;
+            return self.fine();
+        }
+        self = self.pull_sda(value);
+        if self.takes_command(value) {
+            let command = Command::Commanded(value & BBSY != 0);
+            self = self.with_command(command);
+            return self.fine().kick(now, system);
+        }
+        self.fine()
+    }
+
+    fn write_data(mut self, value: u8, now: Time, system: Domain) -> Stepped
+        ensures { λ r. ⌜ r ≡ writeDataOf value now system self ⌝ }
+    {
+        self = self.give_data(value);
+        let hold = self.hold;
+        let mut next = self.fine();
+        if hold.is_transmit() {
+            self = self.load_transmit();
+            next = self.release_hold(now, system);
+        }
+        next.kick(now, system)
+    }
+
+    pub(crate) fn write_at(
+        mut self,
+        register: Register,
+        value: u8,
+        now: Time,
+        system: Domain,
+    ) -> Stepped
+        ensures { λ r. ⌜ r ≡ writeAt register value now system self ⌝ }
+    {
+        self = self.write_plain(register, value);
+        match register {
+            Register::ICCR1 => self.write_control(value, now, system),
+            Register::ICCR2 => self.write_command(value, now, system),
+            Register::ICSR | Register::SAR => self.fine().kick(now, system),
+            Register::ICDRT => self.write_data(value, now, system),
+            _ => self.fine(),
+        }
+    }
+}
+
+impl Stepped {
+    fn stop_receive(mut self) -> Stepped
+        ensures { λ r. ⌜ r ≡ andThen self (λ u. fine (stopReceiveOf u)) ⌝ }
+    {
+        if self.went_on() {
+            self = self.state.stop_receive().fine();
+        }
         self
     }
 }

@@ -1,3 +1,4 @@
 pub mod Time
 pub mod Clock
 pub mod Laws
+pub mod Truths

@@ -5,6 +5,8 @@ use lib.Dec.{eqb, ltb}
 use Rattle.time.specs.declared.Time.{Time}
 use Rattle.time.specs.Time.{earlier, sameTime}
 use Rattle.clocks.specs.declared.Clocks.{Clocks}
+use Rattle.clocks.specs.System.{onSystem, systemDeadline}
+use Rattle.clocks.specs.declared.domain.Domain.{Domain}
 use Rattle.clocks.specs.declared.wait.ClockWait.{ClockWait}
 use Rattle.clocks.specs.declared.wait.Waited.{Waited}
 use Rattle.clocks.specs.declared.wait.NewWait.{NewWait}
@@ -34,15 +36,15 @@ isHalf (Half w) = true
 
 -- ## `set_gate`: waits resume where the gate goes on (true), and pause where it goes off (false)
 
--- the clock's and the monitor's (389)
-abbrev pub turnHalf : Bool → Time → Clocks → HalfWait → NewHalf
-turnHalf gate now k w = cond gate (halfResume w now k) (halfPause w now k)
+-- the clock's and the monitor's, which are on the system clock (389)
+abbrev pub turnHalf : Bool → Time → Domain → HalfWait → NewHalf
+turnHalf gate now system w = cond gate (halfResume w now system) (halfPause w now system)
 
 -- the wait, or the number: a refused pause or resume leaves the wait as it was
 abbrev pub newWait : Waited → NewWait
 newWait w = cond (eqb (w .refusal) 0) (wait.Made (w .wait)) (wait.Refused (w .refusal))
 
--- the filter's and the setup's (404)
+-- the filter's and the setup's, which may be on any tap (404)
 abbrev pub turnWait : Bool → Time → Clocks → ClockWait → NewWait
 turnWait gate now k w = newWait (cond gate (waitResume w now k) (waitPause w now k))
 
@@ -53,15 +55,31 @@ unfoldable pub waitEnd : MaybeWait → Clocks → Deadline
 waitEnd NoWait k = deadline.Never
 waitEnd (Waiting w) k = waitDeadline w k
 
-unfoldable pub halfEnd : MaybeHalf → Clocks → Deadline
-halfEnd NoHalf k = deadline.Never
-halfEnd (Half w) k = halfDeadline w k
+-- no wait, or one for edges of the system clock itself, as the peripheral starts them
+abbrev pub isOnSystem : MaybeWait → Bool
+isOnSystem NoWait = true
+isOnSystem (Waiting w) = onSystem w
+
+-- the same of such a wait, by the system domain alone
+unfoldable pub systemEnd : MaybeWait → Domain → Deadline
+systemEnd NoWait system = deadline.Never
+systemEnd (Waiting w) system = systemDeadline w system
+
+unfoldable pub halfEnd : MaybeHalf → Domain → Deadline
+halfEnd NoHalf system = deadline.Never
+halfEnd (Half w) system = halfDeadline w system
 
 -- document 01: a wait fires only if its time equals now; a refused time is refused (470, 487, 493, 502)
 unfoldable pub dueOf : Deadline → Time → Due
 dueOf deadline.Never now = due.NotNow
 dueOf (deadline.At t) now = cond (sameTime t now) due.Now due.NotNow
 dueOf (deadline.Refused n) now = due.Refused n
+
+-- now, or refused: the visit acts on it
+abbrev pub acts : Due → Bool
+acts due.Now = true
+acts due.NotNow = false
+acts (due.Refused n) = true
 
 -- the earlier of a time and another, if there is one
 abbrev pub soonerThan : Time → Deadline → Deadline

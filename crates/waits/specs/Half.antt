@@ -1,21 +1,16 @@
--- Definitions: waits of half clocks (`HalfWait`; numbers in brackets are lines of iic.rs). Sums past 64 bits are refusal 7, a time that went
--- back is 8.
+-- Definitions: waits of half clocks (`HalfWait`; numbers in brackets are lines of iic.rs). They look at the system domain alone. Sums past
+-- 64 bits are refusal 7, a time that went back is 8.
 use Prim.Native.Nat.{ℕ, _+_, _-_}
-use mathlib.Core.Bool.{Bool, true, false, cond}
+use mathlib.Core.Bool.{Bool, true, false, not, _&&_, cond}
 use lib.Dec.{leb}
 use Rattle.time.specs.declared.Time.{Time}
 use Rattle.time.specs.declared.Count.{Count}
 use Rattle.time.specs.declared.Count.the-variants as count
-use Rattle.time.specs.declared.Moment.{Moment}
-use Rattle.clocks.specs.declared.Clocks.{Clocks}
-use Rattle.clocks.specs.declared.Truth.{Truth}
-use Rattle.clocks.specs.declared.Truth.the-variants as truth
+use Rattle.clocks.specs.declared.domain.Domain.{Domain}
 use Rattle.clocks.specs.declared.wait.Deadline.{Deadline}
 use Rattle.clocks.specs.declared.wait.Deadline.the-variants as deadline
-use Rattle.clocks.specs.Clocks.{availableOf}
 use Rattle.clocks.specs.Counts.{fits}
-use Rattle.clocks.specs.Half.{halfTicks, halfEdge}
-use Rattle.clocks.specs.Tap.{systemTap}
+use Rattle.clocks.specs.Domain.{domainHalfTicks, domainHalfEdge}
 use Rattle.clocks.specs.Wait.{dated}
 use Rattle.waits.specs.declared.HalfWait.{HalfWait}
 use Rattle.waits.specs.declared.NewHalf.{NewHalf}
@@ -45,23 +40,18 @@ madeHalf p (count.Of n) = half.Made (halfWait p n)
 madeHalf p (count.Refused e) = half.Refused e
 
 -- `after`: so many half clocks from now on (24)
-unfoldable pub halfAfter : Time → ℕ → Clocks → NewHalf
-halfAfter now n k = madeHalf false (further (halfTicks k now) n)
-
--- none while the clock is stopped (34)
-abbrev pub whileAvailable : Truth → Moment → Deadline
-whileAvailable (truth.Is b) m = cond b (dated m) deadline.Never
-whileAvailable (truth.Refused e) m = deadline.Refused e
+unfoldable pub halfAfter : Time → ℕ → Domain → NewHalf
+halfAfter now n system = madeHalf false (further (domainHalfTicks system now) n)
 
 -- `deadline`: none while paused or while the system clock is stopped (33)
-unfoldable pub halfDeadline : HalfWait → Clocks → Deadline
-halfDeadline w k =
-    cond (w .paused) deadline.Never (whileAvailable (availableOf k (systemTap 1)) (halfEdge k (w .count)))
+unfoldable pub halfDeadline : HalfWait → Domain → Deadline
+halfDeadline w system =
+    cond (not (w .paused) && system .running) (dated (domainHalfEdge system (w .count))) deadline.Never
 
 -- `pause`: what is left is kept; a paused wait stays as it is (39)
-unfoldable pub halfPause : HalfWait → Time → Clocks → NewHalf
-halfPause w now k = cond (w .paused) (half.Made w) (madeHalf true (leftOf (w .count) (halfTicks k now)))
+unfoldable pub halfPause : HalfWait → Time → Domain → NewHalf
+halfPause w now system = cond (w .paused) (half.Made w) (madeHalf true (leftOf (w .count) (domainHalfTicks system now)))
 
 -- `resume`: what is left, from now on; a running wait stays as it is (49)
-unfoldable pub halfResume : HalfWait → Time → Clocks → NewHalf
-halfResume w now k = cond (w .paused) (halfAfter now (w .count) k) (half.Made w)
+unfoldable pub halfResume : HalfWait → Time → Domain → NewHalf
+halfResume w now system = cond (w .paused) (halfAfter now (w .count) system) (half.Made w)

@@ -1,3 +1,4 @@
 pub mod Half
 pub mod Rates
 pub mod Ends
+pub mod SystemLaws

@@ -1,25 +1,26 @@
 // How waits pause, resume and end.
 ghost use mathlib.Core.Path.{_≡_};
-ghost use Rattle.waits.specs.Ends.{turnHalf, newWait, turnWait, waitEnd, halfEnd, dueOf, soonerThan, sooner, isWait, isHalf, tapRefusal, shortHalf};
+ghost use Rattle.waits.specs.Ends.{isOnSystem, systemEnd, turnHalf, newWait, turnWait, waitEnd, halfEnd, dueOf, acts, soonerThan, sooner, isWait, isHalf, tapRefusal, shortHalf};
 use super::Due;
 use super::HalfWait;
 use super::MaybeHalf;
 use super::MaybeWait;
 use super::NewHalf;
 use clocks::Clocks;
+use clocks::domain::Domain;
 use clocks::wait::ClockWait;
 use clocks::wait::Deadline;
 use clocks::wait::NewWait;
 use clocks::wait::Waited;
 use time::Time;
 
-pub fn turn_half(gate: bool, now: Time, clocks: Clocks, w: HalfWait) -> NewHalf
-    ensures { λ r. ⌜ r ≡ turnHalf gate now clocks w ⌝ }
+pub fn turn_half(gate: bool, now: Time, system: Domain, w: HalfWait) -> NewHalf
+    ensures { λ r. ⌜ r ≡ turnHalf gate now system w ⌝ }
 {
     if gate {
-        w.resume(now, clocks)
+        w.resume(now, system)
     } else {
-        w.pause(now, clocks)
+        w.pause(now, system)
     }
 }
 
@@ -83,6 +84,19 @@ pub fn due(d: Deadline, now: Time) -> Due
     }
 }
 
+impl Due {
+    // Now, or refused: the visit acts on it.
+    pub fn acts(self) -> bool
+        ensures { λ r. ⌜ r ≡ acts self ⌝ }
+    {
+        match self {
+            Due::Now => true,
+            Due::NotNow => false,
+            Due::Refused(_) => true,
+        }
+    }
+}
+
 impl MaybeWait {
     pub fn is_wait(self) -> bool
         ensures { λ r. ⌜ r ≡ isWait self ⌝ }
@@ -99,6 +113,26 @@ impl MaybeWait {
         match self {
             MaybeWait::NoWait => Deadline::Never,
             MaybeWait::Waiting(w) => w.deadline(clocks),
+        }
+    }
+
+    // Whether there is none, or it is on the tap system/1.
+    pub fn is_on_system(self) -> bool
+        ensures { λ r. ⌜ r ≡ isOnSystem self ⌝ }
+    {
+        match self {
+            MaybeWait::NoWait => true,
+            MaybeWait::Waiting(w) => w.on_system(),
+        }
+    }
+
+    // The end of a wait on the tap system/1.
+    pub fn system_end(self, system: Domain) -> Deadline
+        ensures { λ r. ⌜ r ≡ systemEnd self system ⌝ }
+    {
+        match self {
+            MaybeWait::NoWait => Deadline::Never,
+            MaybeWait::Waiting(w) => w.system_deadline(system),
         }
     }
 
@@ -122,12 +156,12 @@ impl MaybeHalf {
         }
     }
 
-    pub fn half_end(self, clocks: Clocks) -> Deadline
-        ensures { λ r. ⌜ r ≡ halfEnd self clocks ⌝ }
+    pub fn half_end(self, system: Domain) -> Deadline
+        ensures { λ r. ⌜ r ≡ halfEnd self system ⌝ }
     {
         match self {
             MaybeHalf::NoHalf => Deadline::Never,
-            MaybeHalf::Half(w) => w.deadline(clocks),
+            MaybeHalf::Half(w) => w.deadline(system),
         }
     }
 

@@ -1,16 +1,13 @@
 // Waits of half clocks of the system clock.
 ghost use mathlib.Core.Path.{_≡_};
-ghost use Rattle.waits.specs.Half.{differenceOf, further, leftOf, madeHalf, halfAfter, whileAvailable, halfDeadline, halfPause, halfResume};
+ghost use Rattle.waits.specs.Half.{differenceOf, further, leftOf, madeHalf, halfAfter, halfDeadline, halfPause, halfResume};
 use super::HalfWait;
 use super::NewHalf;
-use clocks::Clocks;
-use clocks::Truth;
 use clocks::counts::checked_add;
-use clocks::tap::Tap;
+use clocks::domain::Domain;
 use clocks::wait::Deadline;
 use clocks::wait::dated;
 use time::Count;
-use time::Moment;
 use time::Time;
 
 // The difference, or 8 where it is none.
@@ -51,48 +48,39 @@ pub fn made_half(paused: bool, at: Count) -> NewHalf
     }
 }
 
-fn while_available(available: Truth, at: Moment) -> Deadline
-    ensures { λ r. ⌜ r ≡ whileAvailable available at ⌝ }
-{
-    match available {
-        Truth::Is(b) => { if b { dated(at) } else { Deadline::Never } }
-        Truth::Refused(e) => Deadline::Refused(e),
-    }
-}
-
 impl HalfWait {
     // So many half clocks from now on.
-    pub fn after(now: Time, halves: u64, clocks: Clocks) -> NewHalf
-        ensures { λ r. ⌜ r ≡ halfAfter now halves clocks ⌝ }
+    pub fn after(now: Time, halves: u64, system: Domain) -> NewHalf
+        ensures { λ r. ⌜ r ≡ halfAfter now halves system ⌝ }
     {
-        made_half(false, further(clocks.system_half_ticks(now), halves))
+        made_half(false, further(system.half_ticks(now), halves))
     }
 
     // The time at which the wait ends.
-    pub fn deadline(self, clocks: Clocks) -> Deadline
-        ensures { λ r. ⌜ r ≡ halfDeadline self clocks ⌝ }
+    pub fn deadline(self, system: Domain) -> Deadline
+        ensures { λ r. ⌜ r ≡ halfDeadline self system ⌝ }
     {
-        if self.paused {
-            return Deadline::Never;
+        let runs = !self.paused & system.running;
+        if runs {
+            return dated(system.half_edge(self.count));
         }
-        let available = clocks.available(Tap::system(1));
-        while_available(available, clocks.system_half_edge(self.count))
+        Deadline::Never
     }
 
-    pub fn pause(self, now: Time, clocks: Clocks) -> NewHalf
-        ensures { λ r. ⌜ r ≡ halfPause self now clocks ⌝ }
+    pub fn pause(self, now: Time, system: Domain) -> NewHalf
+        ensures { λ r. ⌜ r ≡ halfPause self now system ⌝ }
     {
         if self.paused {
             return NewHalf::Made(self);
         }
-        made_half(true, left_of(self.count, clocks.system_half_ticks(now)))
+        made_half(true, left_of(self.count, system.half_ticks(now)))
     }
 
-    pub fn resume(self, now: Time, clocks: Clocks) -> NewHalf
-        ensures { λ r. ⌜ r ≡ halfResume self now clocks ⌝ }
+    pub fn resume(self, now: Time, system: Domain) -> NewHalf
+        ensures { λ r. ⌜ r ≡ halfResume self now system ⌝ }
     {
         if self.paused {
-            return HalfWait::after(now, self.count, clocks);
+            return HalfWait::after(now, self.count, system);
         }
         NewHalf::Made(self)
     }

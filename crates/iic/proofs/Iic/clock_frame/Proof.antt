@@ -1,4 +1,6 @@
-use Rattle.iic.proofs.Laws.{either, unnot}
+-- `iic::Iic::clock_frame` meets its contract. Assumes nothing.
+use Rattle.iic.specs.AnswerLaws.{either}
+use Rattle.time.specs.Truths.{unnot}
 use Rattle.iic.specs.Answers.{fine}
 use Rattle.iic.specs.Kick.{clockFrameOf, launchOf}
 use Rattle.iic.specs.Ready.{clockDue}

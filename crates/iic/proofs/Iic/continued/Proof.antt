@@ -1,4 +1,4 @@
-use Rattle.iic.specs.Registers.{continuedOf}
+use Rattle.iic.specs.Reading.{continuedOf}
 use Rattle.iic.proofs.Iic.continued.Statement.{statement}
 use Rattle.iic.proofs.Iic.continued.Tie as tie
 

@@ -1,4 +1,4 @@
-use Rattle.iic.specs.Registers.{enterResetOf}
+use Rattle.iic.specs.Writing.{enterResetOf}
 use Rattle.iic.proofs.Iic.enter_reset.Statement.{statement}
 use Rattle.iic.proofs.Iic.enter_reset.Tie as tie
 

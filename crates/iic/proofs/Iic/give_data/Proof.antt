@@ -1,4 +1,4 @@
-use Rattle.iic.specs.Registers.{giveDataOf}
+use Rattle.iic.specs.Writing.{giveDataOf}
 use Rattle.iic.proofs.Iic.give_data.Statement.{statement}
 use Rattle.iic.proofs.Iic.give_data.Tie as tie
 

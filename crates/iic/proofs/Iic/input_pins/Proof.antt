@@ -1,26 +1,18 @@
-use Rattle.iic.proofs.Laws.{guards}
-use Rattle.iic.specs.Calls.{guardOf, inputPinsOf, takePinsOf}
-use Rattle.bus.specs.Bus.{levels}
+-- `iic::Iic::input_pins` meets its contract. Assumes nothing.
+use Rattle.iic.specs.Calls.{inputPinsOf}
+use borrow.Author.Needs.{needs}
 use Rattle.iic.proofs.Iic.input_pins.Statement.{statement}
 use Rattle.iic.proofs.Iic.input_pins.Tie as tie
 
-observes-requires : tie.Need-observes-requires
-observes-requires c κs = tt
+has-zero-requires : tie.Need-has-zero-requires
+has-zero-requires c κs = search needs
 
-guarded-requires : tie.Need-guarded-requires
-guarded-requires c κs = tt
-
-take-pins-requires : tie.Need-take-pins-requires
-take-pins-requires c κs = tt
-
-truth-requires : tie.Need-truth-requires
-truth-requires c κs = tt
+input-pins-by-requires : tie.Need-input-pins-by-requires
+input-pins-by-requires c κs = search needs
 
 returns : tie.Need-returns
 unfolding inputPinsOf
-returns c =
-    let a = c .before .before .before .before .before .args in
-    simp (c .truth .ensures, c .before .before .take-pins .ensures, c .before .before .before .guarded .ensures, c .before .before .before .before .observes .ensures, guards (guardOf (a .self) (a .clocks)) (a .self) (takePinsOf (levels (a .scl) (a .sda)) (a .now) (a .clocks)))
+returns c = simp (c .input-pins-by .ensures, c .before .has-zero .ensures)
 
 pub input-pins-spec : {M : Type 1} → statement M
-input-pins-spec = tie.close (tie.spec observes-requires guarded-requires take-pins-requires truth-requires returns)
+input-pins-spec = tie.close (tie.spec has-zero-requires input-pins-by-requires returns)

@@ -1,4 +1,4 @@
-use Rattle.iic.specs.Registers.{peekAt}
+use Rattle.iic.specs.Reading.{peekAt}
 use borrow.Author.Needs.{needs}
 use Rattle.iic.proofs.Iic.peek_at.Statement.{statement}
 use Rattle.iic.proofs.Iic.peek_at.Tie as tie

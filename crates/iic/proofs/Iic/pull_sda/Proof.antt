@@ -1,4 +1,4 @@
-use Rattle.iic.specs.Registers.{pullSdaOf}
+use Rattle.iic.specs.Writing.{pullSdaOf}
 use Rattle.iic.proofs.Iic.pull_sda.Statement.{statement}
 use Rattle.iic.proofs.Iic.pull_sda.Tie as tie
 

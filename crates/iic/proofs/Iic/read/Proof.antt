@@ -1,30 +1,18 @@
-use Rattle.iic.proofs.Laws.{guards}
-use Rattle.iic.specs.Access.{readAt}
-use Rattle.iic.specs.Calls.{guardOf, readOf}
-use Rattle.iic.specs.Registers.{registerAt}
+-- `iic::Iic::read` meets its contract. Assumes nothing.
+use Rattle.iic.specs.Calls.{readOf}
+use borrow.Author.Needs.{needs}
 use Rattle.iic.proofs.Iic.read.Statement.{statement}
 use Rattle.iic.proofs.Iic.read.Tie as tie
 
-peek-requires : tie.Need-peek-requires
-peek-requires c κs = tt
+has-zero-requires : tie.Need-has-zero-requires
+has-zero-requires c κs = search needs
 
-guarded-requires : tie.Need-guarded-requires
-guarded-requires c κs = tt
-
-at-requires : tie.Need-at-requires
-at-requires c κs = tt
-
-read-at-requires : tie.Need-read-at-requires
-read-at-requires c κs = tt
-
-byte-requires : tie.Need-byte-requires
-byte-requires c κs = tt
+read-by-requires : tie.Need-read-by-requires
+read-by-requires c κs = search needs
 
 returns : tie.Need-returns
 unfolding readOf
-returns c =
-    let a = c .before .before .before .before .before .before .args in
-    simp (c .byte .ensures, c .before .before .read-at .ensures, c .before .before .before .at .ensures, c .before .before .before .before .guarded .ensures, c .before .before .before .before .before .peek .ensures, guards (guardOf (a .self) (a .clocks)) (a .self) (readAt (registerAt (a .address)) (a .now) (a .clocks)))
+returns c = simp (c .read-by .ensures, c .before .has-zero .ensures)
 
 pub read-spec : {M : Type 1} → statement M
-read-spec = tie.close (tie.spec peek-requires guarded-requires at-requires read-at-requires byte-requires returns)
+read-spec = tie.close (tie.spec has-zero-requires read-by-requires returns)

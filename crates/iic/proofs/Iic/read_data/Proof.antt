@@ -1,5 +1,5 @@
 use mathlib.Core.Logic.{inl, inr}
-use Rattle.iic.specs.Access.{readDataOf, resumedOf}
+use Rattle.iic.specs.Reading.{readDataOf, resumedOf}
 use Rattle.iic.proofs.Iic.read_data.Statement.{statement}
 use Rattle.iic.proofs.Iic.read_data.Tie as tie
 

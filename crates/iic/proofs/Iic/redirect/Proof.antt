@@ -1,4 +1,4 @@
-use Rattle.iic.specs.Registers.{redirected}
+use Rattle.iic.specs.Writing.{redirected}
 use Rattle.iic.proofs.Iic.redirect.Statement.{statement}
 use Rattle.iic.proofs.Iic.redirect.Tie as tie
 

@@ -9,18 +9,15 @@ setup-cycles-requires c κs = tt
 cast-cycles : tie.Need-cast-cycles
 cast-cycles c = search needs
 
-system-requires : tie.Need-system-requires
-system-requires c κs = tt
-
-after-requires : tie.Need-after-requires
-after-requires c κs = tt
+system-after-requires : tie.Need-system-after-requires
+system-after-requires c κs = tt
 
 setup-from-requires : tie.Need-setup-from-requires
 setup-from-requires c κs = tt
 
 returns : tie.Need-returns
 unfolding startSetupOf
-returns c = simp (c .setup-from .ensures, c .before .after .ensures, c .before .before .system .ensures, c .before .before .before .setup-cycles .ensures)
+returns c = simp (c .setup-from .ensures, c .before .system-after .ensures, c .before .before .setup-cycles .ensures)
 
 pub start-setup-spec : {M : Type 1} → statement M
-start-setup-spec = tie.close (tie.spec setup-cycles-requires cast-cycles system-requires after-requires setup-from-requires returns)
+start-setup-spec = tie.close (tie.spec setup-cycles-requires cast-cycles system-after-requires setup-from-requires returns)

@@ -1,4 +1,4 @@
-use Rattle.iic.specs.Registers.{stopReceiveOf}
+use Rattle.iic.specs.Writing.{stopReceiveOf}
 use Rattle.iic.proofs.Iic.stop_receive.Statement.{statement}
 use Rattle.iic.proofs.Iic.stop_receive.Tie as tie
 

@@ -1,6 +1,7 @@
+-- `iic::Iic::stretch` meets its contract. Assumes nothing.
 use mathlib.Core.Bool.{true}
 use mathlib.Core.Path.{_∙_, sym}
-use Rattle.iic.proofs.Laws.{finished, stopped}
+use Rattle.iic.specs.AnswerLaws.{finished, stopped}
 use Rattle.iic.specs.Answers.{fine}
 use Rattle.iic.specs.Clocking.{stretchOf}
 use Rattle.iic.specs.Setters.{setSynchronizedHold}

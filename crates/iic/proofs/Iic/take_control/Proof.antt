@@ -1,5 +1,5 @@
 use mathlib.Core.Path.{_∙_, _≡_, ap, sym}
-use Rattle.iic.specs.Registers.{controlSet, redirected, takeControlOf}
+use Rattle.iic.specs.Writing.{controlSet, redirected, takeControlOf}
 use Rattle.iic.proofs.Iic.take_control.Statement.{statement}
 use Rattle.iic.proofs.Iic.take_control.Tie as tie
 

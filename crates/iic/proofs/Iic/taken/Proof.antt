@@ -1,4 +1,4 @@
-use Rattle.iic.specs.Registers.{takenOf}
+use Rattle.iic.specs.Reading.{takenOf}
 use Rattle.iic.proofs.Iic.taken.Statement.{statement}
 use Rattle.iic.proofs.Iic.taken.Tie as tie
 

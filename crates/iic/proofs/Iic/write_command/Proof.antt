@@ -1,4 +1,4 @@
-use Rattle.iic.specs.Access.{outOfResetOf, writeCommandOf}
+use Rattle.iic.specs.Writing.{outOfResetOf, writeCommandOf}
 use Rattle.iic.proofs.Iic.write_command.Statement.{statement}
 use Rattle.iic.proofs.Iic.write_command.Tie as tie
 

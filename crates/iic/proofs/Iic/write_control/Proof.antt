@@ -1,4 +1,4 @@
-use Rattle.iic.specs.Access.{writeControlOf}
+use Rattle.iic.specs.Writing.{writeControlOf}
 use Rattle.iic.proofs.Iic.write_control.Statement.{statement}
 use Rattle.iic.proofs.Iic.write_control.Tie as tie
 

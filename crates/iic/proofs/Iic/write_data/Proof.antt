@@ -1,5 +1,5 @@
 use mathlib.Core.Logic.{inl, inr}
-use Rattle.iic.specs.Access.{writeDataOf, sendOnOf}
+use Rattle.iic.specs.Writing.{writeDataOf, sendOnOf}
 use Rattle.iic.proofs.Iic.write_data.Statement.{statement}
 use Rattle.iic.proofs.Iic.write_data.Tie as tie
 

@@ -1,4 +1,4 @@
-use Rattle.iic.specs.Registers.{writeModeOf}
+use Rattle.iic.specs.Writing.{writeModeOf}
 use Rattle.iic.proofs.Iic.write_mode.Statement.{statement}
 use Rattle.iic.proofs.Iic.write_mode.Tie as tie
 

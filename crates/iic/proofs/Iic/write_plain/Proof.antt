@@ -1,5 +1,5 @@
 use Rattle.iic.proofs.Steps.{not-plain}
-use Rattle.iic.specs.Registers.{writeEnableOf, writeStatusOf, writeAddressOf}
+use Rattle.iic.specs.Writing.{writeEnableOf, writeStatusOf, writeAddressOf}
 use borrow.Author.Needs.{needs}
 use Rattle.iic.proofs.Iic.write_plain.Statement.{statement}
 use Rattle.iic.proofs.Iic.write_plain.Tie as tie

@@ -1,5 +1,5 @@
 use borrow.Author.Tests.{ne-eqb}
-use Rattle.iic.specs.Registers.{registerAt}
+use Rattle.iic.specs.Reading.{registerAt}
 use Rattle.iic.proofs.Register.at.Statement.{statement}
 use Rattle.iic.proofs.Register.at.Tie as tie
 

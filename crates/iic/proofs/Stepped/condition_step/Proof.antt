@@ -1,6 +1,7 @@
+-- `iic::Stepped::condition_step` meets its contract. Assumes nothing.
 use mathlib.Core.Path.{sym}
 use Rattle.iic.specs.Conditions.{conditionHigh}
-use Rattle.iic.proofs.Laws.{both, kept}
+use Rattle.iic.specs.AnswerLaws.{both, kept}
 use Rattle.iic.specs.Edges.{conditionStepOf}
 use Rattle.iic.proofs.Stepped.condition_step.Statement.{statement}
 use Rattle.iic.proofs.Stepped.condition_step.Tie as tie
@@ -21,14 +22,14 @@ returns : tie.Need-returns
 unfolding conditionStepOf
 returns c =
     let a = c .before .before .before .before .before .before .args in
-    let h = both (a .self) (conditionStepOf (a .now) (a .clocks)) (conditionHigh (a .self .state)) (rw (c .before .before .before .before .before .went-on .ensures, c .before .before .before .before .condition-high .ensures) at (c .before .before .before .if1 .taken)) in
+    let h = both (a .self) (conditionStepOf (a .now) (a .system)) (conditionHigh (a .self .state)) (rw (c .before .before .before .before .before .went-on .ensures, c .before .before .before .before .condition-high .ensures) at (c .before .before .before .if1 .taken)) in
     simp (c .start-clock .ensures, c .before .raise-condition .ensures, h .0, h .1)
 
 returns-2 : tie.Need-returns-2
 unfolding conditionStepOf
 returns-2 c =
     let a = c .before .before .before .args in
-    sym (kept (a .self) (conditionStepOf (a .now) (a .clocks)) (conditionHigh (a .self .state)) (rw (c .before .before .went-on .ensures, c .before .condition-high .ensures) at (c .if1 .left)) (λ k. simp k))
+    sym (kept (a .self) (conditionStepOf (a .now) (a .system)) (conditionHigh (a .self .state)) (rw (c .before .before .went-on .ensures, c .before .condition-high .ensures) at (c .if1 .left)) (λ k. simp k))
 
 pub condition-step-spec : {M : Type 1} → statement M
 condition-step-spec = tie.close (tie.spec went-on-requires condition-high-requires raise-condition-requires start-clock-requires returns returns-2)

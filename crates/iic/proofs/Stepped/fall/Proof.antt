@@ -1,5 +1,6 @@
+-- `iic::Stepped::fall` meets its contract. Assumes nothing.
 use mathlib.Core.Path.{_∙_, sym}
-use Rattle.iic.proofs.Laws.{finished, stopped}
+use Rattle.iic.specs.AnswerLaws.{finished, stopped}
 use Rattle.iic.specs.Edges.{fallOf, fallOn}
 use borrow.Author.Needs.{needs}
 use Rattle.iic.proofs.Stepped.fall.Statement.{statement}

@@ -1,5 +1,6 @@
+-- `iic::Stepped::monitor_step` meets its contract. Assumes nothing.
 use mathlib.Core.Path.{_∙_, sym}
-use Rattle.iic.proofs.Laws.{finished, stopped}
+use Rattle.iic.specs.AnswerLaws.{finished, stopped}
 use Rattle.iic.specs.Waiting.{startMonitorOf}
 use Rattle.iic.specs.Clocking.{monitorStepOf}
 use borrow.Author.Needs.{needs}
@@ -37,7 +38,7 @@ returns-2 c = simp (c .fine .ensures, c .before .with-monitor-wait .ensures, c .
 
 returns-3 : tie.Need-returns-3
 unfolding monitorStepOf startMonitorOf
-returns-3 c = simp (stopped (c .before .before .args .self) (monitorStepOf (c .before .before .args .now) (c .before .before .args .clocks)) (sym (c .before .went-on .ensures) ∙ c .if1 .left))
+returns-3 c = simp (stopped (c .before .before .args .self) (monitorStepOf (c .before .before .args .now) (c .before .before .args .system)) (sym (c .before .went-on .ensures) ∙ c .if1 .left))
 
 pub monitor-step-spec : {M : Type 1} → statement M
 monitor-step-spec = tie.close (tie.spec went-on-requires monitor-halves-requires cast-halves after-requires monitor-from-requires with-monitor-wait-requires fine-requires returns returns-2 returns-3)

@@ -1,7 +1,8 @@
+-- `iic::Stepped::show` meets its contract. Assumes nothing.
 use Rattle.iic.specs.Answers.{fine}
 use Rattle.iic.specs.Ready.{showOf}
 use mathlib.Core.Path.{_∙_, sym}
-use Rattle.iic.proofs.Laws.{finished, stopped}
+use Rattle.iic.specs.AnswerLaws.{finished, stopped}
 use Rattle.iic.proofs.Stepped.show.Statement.{statement}
 use Rattle.iic.proofs.Stepped.show.Tie as tie
 

@@ -1,7 +1,8 @@
+-- `iic::Stepped::stop_receive` meets its contract. Assumes nothing.
 use Rattle.iic.specs.Answers.{fine}
-use Rattle.iic.specs.Registers.{stopReceiveOf}
+use Rattle.iic.specs.Writing.{stopReceiveOf}
 use mathlib.Core.Path.{_∙_, sym}
-use Rattle.iic.proofs.Laws.{finished, stopped}
+use Rattle.iic.specs.AnswerLaws.{finished, stopped}
 use Rattle.iic.proofs.Stepped.stop_receive.Statement.{statement}
 use Rattle.iic.proofs.Stepped.stop_receive.Tie as tie
 

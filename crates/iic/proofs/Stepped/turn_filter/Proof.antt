@@ -1,5 +1,6 @@
+-- `iic::Stepped::turn_filter` meets its contract. Assumes nothing.
 use mathlib.Core.Path.{_∙_, sym}
-use Rattle.iic.proofs.Laws.{rests, stopped, went}
+use Rattle.iic.specs.AnswerLaws.{rests, stopped, went}
 use Rattle.iic.specs.Waiting.{turnFilterOf}
 use borrow.Author.Needs.{needs}
 use Rattle.iic.proofs.Stepped.turn_filter.Statement.{statement}

@@ -6,8 +6,8 @@ returns : tie.Need-returns
 unfolding halfPause
 returns c = simp (c .if1 .taken)
 
-system-half-ticks-requires : tie.Need-system-half-ticks-requires
-system-half-ticks-requires c κs = tt
+half-ticks-requires : tie.Need-half-ticks-requires
+half-ticks-requires c κs = tt
 
 left-of-requires : tie.Need-left-of-requires
 left-of-requires c κs = tt
@@ -17,7 +17,7 @@ made-half-requires c κs = tt
 
 returns-2 : tie.Need-returns-2
 unfolding halfPause
-returns-2 c = simp (c .made-half .ensures, c .before .left-of .ensures, ← c .before .before .system-half-ticks .ensures, c .before .before .before .if1 .left)
+returns-2 c = simp (c .made-half .ensures, c .before .left-of .ensures, ← c .before .before .half-ticks .ensures, c .before .before .before .if1 .left)
 
 pub pause-spec : {M : Type 1} → statement M
-pause-spec = tie.close (tie.spec returns system-half-ticks-requires left-of-requires made-half-requires returns-2)
+pause-spec = tie.close (tie.spec returns half-ticks-requires left-of-requires made-half-requires returns-2)
