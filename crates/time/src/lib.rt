@@ -3,6 +3,7 @@ ghost use mathlib.Core.Path.{_≡_};
 ghost use Prim.Native.Nat.{_+_, _-_, _*_, _/_, _^_, _≤_, _<_, min};
 ghost use Rattle.time.specs.Time.{timeOf, timeFrom, momentOf, earlier, sameTime, sumOf, sinceOf, nextTime, midway};
 ghost use Rattle.time.specs.Clock.{edgesBefore, zeroIn, newClock, afterOf, edgesBeforeOf};
+ghost use Rattle.words.specs.Words.{valueOf};
 use words::Wide;
 use words::divide;
 use words::product;
@@ -165,6 +166,19 @@ impl Time {
     }
 }
 
+// The whole product of edges and denominator, without one where the denominator is 1.
+fn periods_of(edges: u64, denominator: u64) -> Wide
+    ensures { λ r. ⌜ valueOf r ≡ edges * denominator ⌝ }
+{
+    if denominator == 1 {
+        return Wide {
+            high: 0,
+            low: edges,
+        };
+    }
+    product(edges, denominator)
+}
+
 // The time of so many periods of 1 / numerator s after a start, in words, or 7: the whole seconds, and what they leave of a second.
 fn edge_of(seconds: u64, fraction: u64, numerator: u64, high: u64, low: u64) -> Moment
     requires { ⌜ 0 < numerator ⌝ }
@@ -226,10 +240,7 @@ impl Clock {
             return Moment::Refused(1);
         }
         let start = self.start;
-        if self.denominator == 1 {
-            return edge_of(start.seconds, start.fraction, self.numerator, 0, edges);
-        }
-        let periods = product(edges, self.denominator);
+        let periods = periods_of(edges, self.denominator);
         edge_of(
             start.seconds,
             start.fraction,

@@ -2,7 +2,6 @@
 -- Assumes nothing.
 use Prim.Native.Nat.{ℕ, _+_, _*_, _/_, _^_}
 use mathlib.Core.Path.{sym, ap, _∙_}
-use native.Mathlib.Nat.{zero-add, mul-one}
 use Rattle.time.specs.Time.{timeOf, momentOf}
 use Rattle.time.specs.Clock.{edgeOf, afterOf}
 use Rattle.time.specs.Laws.{no-zero, after-is}
@@ -17,47 +16,24 @@ returns : tie.Need-returns
 unfolding afterOf
 returns c = simp (← c .before .has-zero .ensures, c .if1 .taken)
 
+periods-of-requires : tie.Need-periods-of-requires
+periods-of-requires c κs = search needs
+
 edge-of-requires : tie.Need-edge-of-requires
 edge-of-requires c κs =
-    let e = c .before .before .before in
+    let e = c .before .before in
     no-zero (e .before .before .args .self) (sym (e .before .has-zero .ensures) ∙ e .if1 .left) .0
 
 returns-2 : tie.Need-returns-2
 unfolding edgeOf
 returns-2 c =
-    let i = c .before in
-    let e = i .before .before .before in
+    let p = c .before in
+    let e = p .before .before in
     let a = e .before .before .args in
     c .edge-of .ensures
-    ∙ ap (λ (n : ℕ). momentOf (timeOf (a .self .start) + n * 2 ^ 64 / a .self .numerator)) (zero-add (a .edges) ∙ sym (ap (λ (d : ℕ). a .edges * d) (i .if2 .taken) ∙ mul-one (a .edges)))
-    ∙ sym (after-is (a .self) (a .edges) (sym (e .before .has-zero .ensures) ∙ e .if1 .left))
-
-product-requires : tie.Need-product-requires
-product-requires c κs = search needs
-
-edge-of-requires-2 : tie.Need-edge-of-requires-2
-edge-of-requires-2 c κs =
-    let e = c .before .before .before .before in
-    no-zero (e .before .before .args .self) (sym (e .before .has-zero .ensures) ∙ e .if1 .left) .0
-
-returns-3 : tie.Need-returns-3
-unfolding edgeOf
-returns-3 c =
-    let p = c .before in
-    let e = p .before .before .before .before in
-    let a = e .before .before .args in
-    c .edge-of2 .ensures
-    ∙ ap (λ (n : ℕ). momentOf (timeOf (a .self .start) + n * 2 ^ 64 / a .self .numerator)) (p .product .ensures)
+    ∙ ap (λ (n : ℕ). momentOf (timeOf (a .self .start) + n * 2 ^ 64 / a .self .numerator)) (p .periods-of .ensures)
     ∙ sym (after-is (a .self) (a .edges) (sym (e .before .has-zero .ensures) ∙ e .if1 .left))
 
 pub after-spec : {M : Type 1} → statement M
 after-spec =
-    tie.close
-    (tie.spec
-    has-zero-requires
-    returns
-    edge-of-requires
-    returns-2
-    product-requires
-    edge-of-requires-2
-    returns-3)
+    tie.close (tie.spec has-zero-requires returns periods-of-requires edge-of-requires returns-2)
