@@ -74,6 +74,26 @@ pub decimal-more : (k n : ℕ) → 0 < k → 10 ≤ n → decimalIn (k - 1) (n /
 unfolding decimalIn
 decimal-more k n h l = sym (ap (λ (j : ℕ). decimalIn j n) (back k h) ∙ rw (le-ltb n 10 l))
 
+-- where one digit is wanted, the last
+pub decimal-end : (k n : ℕ) → k ≡ 1 → 10 ≤ n → (glyph (n % 10) ∷ []) ≡ decimalIn k n
+decimal-end k n e l = ap (λ (ds : List ℕ). ds ++ (glyph (n % 10) ∷ [])) (decimal-none (k - 1) (n / 10) (omega arith)) ∙ decimal-more k n (omega arith) l
+
+-- two digits
+pub decimal-two : (k n : ℕ) → 1 < k → 10 ≤ n → n / 10 < 10 → (glyph (n / 10) ∷ glyph (n % 10) ∷ []) ≡ decimalIn k n
+decimal-two k n h l m = ap (λ (ds : List ℕ). ds ++ (glyph (n % 10) ∷ [])) (decimal-last (k - 1) (n / 10) (omega arith) m) ∙ decimal-more k n (omega arith) l
+
+-- two after those of a hundredth
+pub decimal-on : (k n : ℕ) → 1 < k → 10 ≤ n → 10 ≤ n / 10
+    → decimalIn (k - 2) (n / 10 / 10) ++ (glyph (n / 10 % 10) ∷ glyph (n % 10) ∷ []) ≡ decimalIn k n
+decimal-on k n h l m =
+    sym (append-assoc (decimalIn (k - 2) (n / 10 / 10)) (glyph (n / 10 % 10) ∷ []) (glyph (n % 10) ∷ []))
+    ∙ ap (λ (j : ℕ). (decimalIn j (n / 10 / 10) ++ (glyph (n / 10 % 10) ∷ [])) ++ (glyph (n % 10) ∷ [])) (less k)
+    ∙ ap (λ (ds : List ℕ). ds ++ (glyph (n % 10) ∷ [])) (decimal-more (k - 1) (n / 10) (omega arith) m)
+    ∙ decimal-more k n (omega arith) l
+  where
+    less : (k : ℕ) → k - 2 ≡ k - 1 - 1
+    less k = omega arith
+
 pub hex-none : (k n : ℕ) → k ≡ 0 → [] ≡ hexIn k n
 unfolding hexIn
 hex-none k n e = sym (ap (λ (j : ℕ). hexIn j n) e)

@@ -123,14 +123,9 @@ module _ {k : Clocks} {ended : Bool} {s before : List ℕ} {p₀ : Player} {out 
         ∙ ap (λ (l : List ℕ). take written out ++ l) (sym (g .rest))
         ∙ take-append-drop written out)
 
-  -- the same under another name of the clocks
-  pub finish : {k′ : Clocks} → k ≡ k′ → (n : ℕ) → run k p (linesLeft p (linesIn ended (drop at s))) (length before - written) ≡ stopped p n
-      → (record { used = at; written = written; refusal = n; player = p } ≡ progressOf (length s) (run k′ p₀ (linesLeft p₀ (linesIn ended s)) (length before)))
-      × (out ≡ over (run k′ p₀ (linesLeft p₀ (linesIn ended s)) (length before)) before)
-  finish same n e = (
-    done-is n e ∙ ap (λ (x : Clocks). progressOf (length s) (run x p₀ (linesLeft p₀ (linesIn ended s)) (length before))) same,
-    done-over n e ∙ ap (λ (x : Clocks). over (run x p₀ (linesLeft p₀ (linesIn ended s)) (length before)) before) same,
-  )
+  pub finish : (n : ℕ) → run k p (linesLeft p (linesIn ended (drop at s))) (length before - written) ≡ stopped p n
+      → (record { used = at; written = written; refusal = n; player = p } ≡ progressOf (length s) whole) × (out ≡ over whole before)
+  finish n e = (done-is n e, done-over n e)
 
   -- one turn
   module _ (end : ℕ) (some : at < length s) (below : p .lines < 1000000) (end-is : end ≡ at + lineLength (drop at s)) (end-le : end ≤ length s)

@@ -1,16 +1,16 @@
 -- One step of reading seconds, a fraction and the end of a line, at a place of a list.
 -- Assumes nothing.
 use mathlib.Core.Path.{_≡_, refl, sym, ap, _∙_, subst}
-use mathlib.Core.Bool.{Bool, true, false, cond, not, _&&_}
-use mathlib.Core.List.{List, _∷_}
-use Prim.Native.Nat.{ℕ, suc, _+_, _-_, _*_, _%_, _^_, _≤_, _<_}
+use mathlib.Core.Bool.{Bool, true, false, cond, not, _&&_, _||_}
+use mathlib.Core.List.{List, [], _∷_}
+use Prim.Native.Nat.{ℕ, zero, suc, _+_, _-_, _*_, _%_, _^_, _≤_, _<_}
 use native.Mathlib.Nat.{pow-suc, pow-le-pow-right}
 use native.Mathlib.Numerals.{add-one}
 use native.Mathlib.Omega.{arith}
 use lib.Dec.{ltb, eqb}
 use lib.ListN.{length, drop, getD, drop-of-length-le}
-use lib.Seq.{drop-cons}
-use borrow.Author.Tests.{ltb-true, ltb-false, lt-ltb, le-ltb, eq-eqb, ne-eqb}
+use lib.Seq.{drop-cons, drop-drop}
+use borrow.Author.Tests.{ltb-true, ltb-false, lt-ltb, le-ltb, eq-eqb, ne-eqb, eqb-true, eqb-false}
 use Rattle.player.specs.declared.reading.Scanned.the-variants.{NoSeconds}
 use Rattle.player.specs.declared.reading.MaybeUnits.the-variants.{NoUnits, Units}
 use Rattle.player.specs.Lines.{lineLength}
@@ -80,6 +80,35 @@ module _ (l : List ℕ) (i : ℕ) (within : i < length l) where
     where
       one : (n : ℕ) → suc n ≡ 1 + n
       one n = omega arith
+
+-- a line that is at least as long as some bytes goes on after them
+pub line-on : (l : List ℕ) (i : ℕ) → i ≤ lineLength l → lineLength l ≡ i + lineLength (drop i l)
+unfolding lineLength
+line-on l zero h = omega arith
+line-on [] (suc i) h = absurd (omega arith)
+line-on (x ∷ xs) (suc i) h = by (eqb x 10) (line-on xs i) h
+  where
+    by : (t : Bool) → (i ≤ lineLength xs → lineLength xs ≡ i + lineLength (drop i xs)) → suc i ≤ cond t 0 (suc (lineLength xs))
+        → cond t 0 (suc (lineLength xs)) ≡ suc i + lineLength (drop i xs)
+    by true more h = absurd (omega arith)
+    by false more h = omega (arith, more (omega arith))
+
+-- whether a line ends within i bytes and one more
+pub ends-by : (l : List ℕ) (at i : ℕ) → at + i < length l
+    → (ltb (lineLength (drop at l)) i || eqb (getD l (at + i) 0) 10) ≡ ltb (lineLength (drop at l)) (i + 1)
+ends-by l at i h = by (ltb (lineLength (drop at l)) i) (eqb (getD l (at + i) 0) 10) refl refl
+  where
+    more : i ≤ lineLength (drop at l) → lineLength (drop at l) ≡ i + lineLength (drop (at + i) l)
+    more few = line-on (drop at l) i few ∙ ap (λ (k : List ℕ). i + lineLength k) (drop-drop i at l)
+
+    by : (t u : Bool) → ltb (lineLength (drop at l)) i ≡ t → eqb (getD l (at + i) 0) 10 ≡ u → (t || u) ≡ ltb (lineLength (drop at l)) (i + 1)
+    by true u e f = sym (lt-ltb (lineLength (drop at l)) (i + 1) (omega (arith, ltb-true (lineLength (drop at l)) i e)))
+    by false true e f =
+        sym (lt-ltb (lineLength (drop at l)) (i + 1)
+        (omega (arith, more (ltb-false (lineLength (drop at l)) i e), end-here l (at + i) h (eqb-true (getD l (at + i) 0) 10 f))))
+    by false false e f =
+        sym (le-ltb (lineLength (drop at l)) (i + 1)
+        (omega (arith, more (ltb-false (lineLength (drop at l)) i e), end-on l (at + i) h (eqb-false (getD l (at + i) 0) 10 f))))
 
 pub scan-none : (l : List ℕ) (n i : ℕ) → length l ≤ i → scan n i (drop i l) ≡ NoSeconds
 unfolding scan

@@ -12,6 +12,19 @@ use lib.Seq.{take-all, drop-drop}
 use borrow.Author.Tests.{le-ltb, ltb-true, ltb-false}
 use Rattle.player.specs.Lines.{unclosed, linesFrom, linesIn, lineLength}
 
+line-long : (l : List ℕ) → lineLength l ≤ length l
+unfolding lineLength
+line-long [] = omega arith
+line-long (x ∷ xs) = by (eqb x 10) (line-long xs)
+  where
+    by : (t : Bool) → lineLength xs ≤ length xs → cond t 0 (suc (lineLength xs)) ≤ suc (length xs)
+    by true h = omega arith
+    by false h = omega arith
+
+-- a line that starts within ends within
+pub line-within : (s : List ℕ) (at end : ℕ) → at < length s → end ≡ at + lineLength (drop at s) → end ≤ length s
+line-within s at end h e = omega (arith, line-long (drop at s), length-drop at s)
+
 -- a line that a newline closes
 pub from-next : (ended : Bool) (begun l : List ℕ) → lineLength l < length l
     → linesFrom ended begun l ≡ (begun ++ take (lineLength l) l) ∷ linesFrom ended [] (drop (suc (lineLength l)) l)
@@ -56,14 +69,14 @@ module _ (ended : Bool) (s : List ℕ) (at end : ℕ) (some : at < length s) (en
   rest-long : length rest ≡ length s - at
   rest-long = length-drop at s
 
-  line-long : end - at ≡ lineLength rest
-  line-long = omega arith
+  ends-at : end - at ≡ lineLength rest
+  ends-at = omega arith
 
   closed : end < length s → linesIn ended rest ≡ take (end - at) rest ∷ linesIn ended (drop (min (length s) (end + 1)) s)
   unfolding linesIn
   closed h =
       from-next ended [] rest (omega (arith, rest-long))
-      ∙ ap (λ (n : ℕ). take n rest ∷ linesFrom ended [] (drop (suc (lineLength rest)) rest)) (sym line-long)
+      ∙ ap (λ (n : ℕ). take n rest ∷ linesFrom ended [] (drop (suc (lineLength rest)) rest)) (sym ends-at)
       ∙ ap (λ (l : List ℕ). take (end - at) rest ∷ linesFrom ended [] l) (drop-drop (suc (lineLength rest)) at s ∙ ap (λ (n : ℕ). drop n s) on)
     where
       on : at + suc (lineLength rest) ≡ min (length s) (end + 1)

@@ -1,6 +1,5 @@
 // Answer lines.
 ghost use mathlib.Core.Path.{_≡_};
-ghost use mathlib.Core.List.{[], _∷_};
 ghost use Prim.Native.Nat.{_+_, _≤_};
 ghost use lib.ListN.{length};
 ghost use Rattle.player.specs.Puts.{Put};
@@ -12,6 +11,7 @@ use super::text::put_byte;
 use super::text::put_decimal;
 use super::text::put_digits;
 use super::text::put_hex;
+use super::text::put_two;
 use iic::Pins;
 use time::Time;
 ghost use Rattle.player.specs.declared.Value.the-variants.{Moment};
@@ -44,21 +44,13 @@ fn put_value(out: &mut [u8], at: usize, value: Value) -> usize
     }
 }
 
-fn put_pair(out: &mut [u8], at: usize, scl: bool, sda: bool) -> usize
-    requires { ⌜ at + 2 ≤ length (now out) ⌝ }
-    ensures { λ r. ⌜ Put (now (out .entry)) (now (out .exit)) at r (bitGlyph scl ∷ bitGlyph sda ∷ []) ⌝ }
-{
-    let next = put_byte(out, at, bit_glyph(scl));
-    put_byte(out, next, bit_glyph(sda))
-}
-
 fn put_levels(out: &mut [u8], at: usize, pins: Pins) -> usize
     requires { ⌜ at + 2 ≤ length (now out) ⌝ }
     ensures { λ r. ⌜ Put (now (out .entry)) (now (out .exit)) at r (levelsText pins) ⌝ }
 {
     match pins {
         Pins::NoPins => put_byte(out, at, b'-'),
-        Pins::Driven(levels) => put_pair(out, at, levels.scl, levels.sda),
+        Pins::Driven(levels) => put_two(out, at, bit_glyph(levels.scl), bit_glyph(levels.sda)),
     }
 }
 

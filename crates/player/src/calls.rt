@@ -1,5 +1,7 @@
 // A line's call on the peripheral.
 ghost use mathlib.Core.Path.{_≡_};
+ghost use Rattle.iic.specs.Calls.{advanceOf, deadlineOf};
+ghost use Rattle.player.specs.Trace.{traceClocks};
 ghost use Rattle.player.specs.Calls.{laterThan, ofRead, ofStep, ofPins, ofDeadline, outcomeOf, refusedBy, takenAt, calledOf, answerOf};
 use super::Answer;
 use super::Call;
@@ -10,7 +12,8 @@ use super::Parsed;
 use super::Value;
 use super::Verb;
 use super::reading::parse;
-use clocks::Clocks;
+use super::trace_clocks;
+use super::trace_system;
 use clocks::Truth;
 use clocks::wait::Deadline;
 use iic::Byte;
@@ -100,17 +103,46 @@ fn of_deadline(deadline: Deadline, state: Iic) -> Outcome
     }
 }
 
-// The call on a state.
-fn outcome(verb: Verb, time: Time, state: Iic, clocks: Clocks) -> Outcome
-    ensures { λ r. ⌜ r ≡ outcomeOf clocks time state verb ⌝ }
+// A visit, over the system clock alone where that is all that the state waits for.
+fn visited(time: Time, state: Iic) -> Stepped
+    ensures { λ r. ⌜ r ≡ advanceOf state time traceClocks ⌝ }
+{
+    let alone = state.waits_on_system();
+    if alone {
+        state.advance_over(time, trace_system())
+    } else {
+        state.advance(time, trace_clocks())
+    }
+}
+
+// A deadline, in the same way.
+fn deadline_of(state: Iic) -> Deadline
+    ensures { λ r. ⌜ r ≡ deadlineOf state traceClocks ⌝ }
+{
+    let alone = state.waits_on_system();
+    if alone {
+        state.deadline_over(trace_system())
+    } else {
+        state.deadline(trace_clocks())
+    }
+}
+
+// The call on a state, over a trace's clocks.
+fn outcome(verb: Verb, time: Time, state: Iic) -> Outcome
+    ensures { λ r. ⌜ r ≡ outcomeOf traceClocks time state verb ⌝ }
 {
     match verb {
-        Verb::Read(address) => of_read(state.read(address, time, clocks)),
-        Verb::Write(address, byte) => of_step(state.write(address, byte, time, clocks)),
-        Verb::Pins(scl, sda) => of_pins(state.input_pins(scl, sda, time, clocks)),
-        Verb::Gate(gate) => of_step(state.set_gate(gate, time, clocks)),
-        Verb::Visit => of_step(state.advance(time, clocks)),
-        Verb::Deadline => of_deadline(state.deadline(clocks), state),
+        Verb::Read(address) => of_read(state.read_over(address, time, trace_system())),
+        Verb::Write(address, byte) => of_step(state.write_over(
+            address,
+            byte,
+            time,
+            trace_system(),
+        )),
+        Verb::Pins(scl, sda) => of_pins(state.input_pins_over(scl, sda, time, trace_system())),
+        Verb::Gate(gate) => of_step(state.set_gate(gate, time, trace_clocks())),
+        Verb::Visit => of_step(visited(time, state)),
+        Verb::Deadline => of_deadline(deadline_of(state), state),
     }
 }
 
@@ -153,28 +185,28 @@ impl Host {
         }
     }
 
-    fn called(self, call: Call, clocks: Clocks) -> Answer
-        ensures { λ r. ⌜ r ≡ calledOf clocks self call ⌝ }
+    fn called(self, call: Call) -> Answer
+        ensures { λ r. ⌜ r ≡ calledOf traceClocks self call ⌝ }
     {
         let last = self.last;
         let verb = call.verb;
         let time = call.time;
         let later = last.admits(time);
         if later {
-            taken_at(time, outcome(verb, time, self.state, clocks))
+            taken_at(time, outcome(verb, time, self.state))
         } else {
             self.refused(5)
         }
     }
 
     // The answer to a line.
-    pub fn answer(self, line: &[u8], clocks: Clocks) -> Answer
-        ensures { λ r. ⌜ r ≡ answerOf clocks self (now (line .entry)) ⌝ }
+    pub fn answer(self, line: &[u8]) -> Answer
+        ensures { λ r. ⌜ r ≡ answerOf traceClocks self (now (line .entry)) ⌝ }
     {
         let parsed = parse(line);
         match parsed {
             Parsed::Malformed => self.refused(4),
-            Parsed::Calls(call) => self.called(call, clocks),
+            Parsed::Calls(call) => self.called(call),
         }
     }
 }

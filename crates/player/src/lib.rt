@@ -11,9 +11,11 @@ pub mod text;
 
 use clocks::Clocks;
 use clocks::Frequencies;
+use clocks::domain::Domain;
 use iic::Iic;
 use lines::line_end;
 use lines::past;
+use time::Clock;
 use time::Time;
 
 // A call of the peripheral, as a verb with its operands.
@@ -103,6 +105,25 @@ pub fn trace_clocks() -> Clocks
     Clocks::new(start, Frequencies::default()).clocks
 }
 
+// Its system clock.
+pub fn trace_system() -> Domain
+    ensures { λ r. ⌜ r ≡ traceClocks .system ⌝ }
+{
+    let start = Time {
+        seconds: 0,
+        fraction: 0,
+    };
+    Domain {
+        clock: Clock {
+            start,
+            numerator: Frequencies::default().main_hz,
+            denominator: 1,
+        },
+        running: true,
+        held_at: start,
+    }
+}
+
 impl Player {
     // Before the first line.
     pub fn new() -> Player
@@ -121,7 +142,6 @@ impl Player {
     pub fn play_lines(self, part: &[u8], ended: bool, out: &mut [u8]) -> Progress
         ensures { λ r. ⌜ (r ≡ progressOf (length (now (part .entry))) (partOf self ended (now (part .entry)) (length (now (out .entry))))) × (now (out .exit) ≡ over (partOf self ended (now (part .entry)) (length (now (out .entry)))) (now (out .entry))) ⌝ }
     {
-        let clocks = trace_clocks();
         let mut host = self.host;
         let mut lines = self.lines;
         let mut at = 0usize;
@@ -143,7 +163,7 @@ impl Player {
                     player: Player { lines, host },
                 };
             }
-            let answer = host.answer(&part[at..end], clocks);
+            let answer = host.answer(&part[at..end]);
             lines += 1;
             host = answer.host;
             written += answer.write(&mut out[written..], lines);

@@ -22,7 +22,16 @@ pub(crate) fn put_byte(out: &mut [u8], at: usize, b: u8) -> usize
     at + 1
 }
 
-// At most k decimal digits of n, with no needless zero.
+// Two bytes.
+pub(crate) fn put_two(out: &mut [u8], at: usize, a: u8, b: u8) -> usize
+    requires { ⌜ at + 2 ≤ length (now out) ⌝ }
+    ensures { λ r. ⌜ Put (now (out .entry)) (now (out .exit)) at r (a ∷ b ∷ []) ⌝ }
+{
+    let next = put_byte(out, at, a);
+    put_byte(out, next, b)
+}
+
+// At most k decimal digits of n, with no needless zero: two at a time.
 pub(crate) fn put_decimal(out: &mut [u8], at: usize, n: u64, k: usize) -> usize
     requires { ⌜ at + k ≤ length (now out) ⌝ }
     ensures { λ r. ⌜ Put (now (out .entry)) (now (out .exit)) at r (decimalIn k n) ⌝ }
@@ -33,8 +42,16 @@ pub(crate) fn put_decimal(out: &mut [u8], at: usize, n: u64, k: usize) -> usize
     if n < 10 {
         return put_byte(out, at, glyph_of(n));
     }
-    let next = put_decimal(out, at, n / 10, k - 1);
-    put_byte(out, next, glyph_of(n % 10))
+    let last = glyph_of(n % 10);
+    if k == 1 {
+        return put_byte(out, at, last);
+    }
+    let tens = n / 10;
+    if tens < 10 {
+        return put_two(out, at, glyph_of(tens), last);
+    }
+    let next = put_decimal(out, at, tens / 10, k - 2);
+    put_two(out, next, glyph_of(tens % 10), last)
 }
 
 // The last k hexadecimal digits of n.
@@ -55,6 +72,5 @@ pub(crate) fn put_digits(out: &mut [u8], at: usize, b: u8) -> usize
     ensures { λ r. ⌜ Put (now (out .entry)) (now (out .exit)) at r (hexIn 2 b) ⌝ }
 {
     let n = b as u64;
-    let next = put_byte(out, at, glyph_of(n / 16));
-    put_byte(out, next, glyph_of(n % 16))
+    put_two(out, at, glyph_of(n / 16), glyph_of(n % 16))
 }

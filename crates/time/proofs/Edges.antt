@@ -1,4 +1,4 @@
--- Laws on the quotients that an edge's time and a count are made of, which the proofs of `edge`, `periods` and `count` cite.
+-- Laws on the quotients that an edge's time and a count are made of, which the proofs of `edge_of`, `periods` and `count` cite.
 -- Assumes nothing.
 use mathlib.Core.Path.{_≡_, sym, ap, _∙_, subst}
 use Prim.Native.Nat.{ℕ, _+_, _-_, _*_, _/_, _%_, _^_, _≤_, _<_, min}

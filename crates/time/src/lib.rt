@@ -2,7 +2,7 @@
 ghost use mathlib.Core.Path.{_≡_};
 ghost use Prim.Native.Nat.{_+_, _-_, _*_, _/_, _^_, _≤_, _<_, min};
 ghost use Rattle.time.specs.Time.{timeOf, timeFrom, momentOf, earlier, sameTime, sumOf, sinceOf, nextTime, midway};
-ghost use Rattle.time.specs.Clock.{edgeOf, edgesBefore, zeroIn, newClock, afterOf, edgesBeforeOf};
+ghost use Rattle.time.specs.Clock.{edgesBefore, zeroIn, newClock, afterOf, edgesBeforeOf};
 ghost use Rattle.words.specs.Words.{valueOf};
 use words::Wide;
 use words::divide;
@@ -67,11 +67,8 @@ impl Time {
     {
         let low = sum(self.fraction, by.fraction);
         let high = sum(self.seconds, by.seconds);
-        if high.high != 0 {
-            return Moment::Refused(7);
-        }
         let top = sum(high.low, low.high);
-        if top.high != 0 {
+        if high.high + top.high != 0 {
             return Moment::Refused(7);
         }
         Moment::At(Time {
@@ -182,6 +179,34 @@ fn periods_of(edges: u64, denominator: u64) -> Wide
     product(edges, denominator)
 }
 
+// The time of so many periods of 1 / numerator s after a start, in words, or 7: the whole seconds, and what they leave of a second.
+fn edge_of(seconds: u64, fraction: u64, numerator: u64, high: u64, low: u64) -> Moment
+    requires { ⌜ 0 < numerator ⌝ }
+    ensures { λ r. ⌜ r ≡ momentOf (seconds * 2 ^ 64 + fraction + (high * 2 ^ 64 + low) * 2 ^ 64 / numerator) ⌝ }
+{
+    let start = Time { seconds, fraction };
+    if high == 0 {
+        let since = scaled_quotient(low, numerator);
+        return start.checked_add(Time {
+            seconds: since.high,
+            fraction: since.low,
+        });
+    }
+    let whole = divide(Wide { high, low }, numerator);
+    if whole.quotient.high != 0 {
+        return Moment::Refused(7);
+    }
+    let left = Wide {
+        high: whole.remainder,
+        low: 0,
+    };
+    let part = divide(left, numerator);
+    start.checked_add(Time {
+        seconds: whole.quotient.low,
+        fraction: part.quotient.low,
+    })
+}
+
 impl Clock {
     // A clock, or refusal 1 where the frequency or its denominator is zero.
     pub fn new(start: Time, numerator: u64, denominator: u64) -> NewClock
@@ -206,35 +231,6 @@ impl Clock {
         (self.numerator == 0) | (self.denominator == 0)
     }
 
-    // The time of the edge of that number after the start, or 7: the whole seconds of its periods, and what they leave of a second.
-    fn edge(self, edges: u64) -> Moment
-        requires { ⌜ 0 < self .numerator ⌝ }
-        ensures { λ r. ⌜ r ≡ momentOf (edgeOf self edges) ⌝ }
-    {
-        let start = self.start;
-        let periods = periods_of(edges, self.denominator);
-        if periods.high == 0 {
-            let since = scaled_quotient(periods.low, self.numerator);
-            return start.checked_add(Time {
-                seconds: since.high,
-                fraction: since.low,
-            });
-        }
-        let seconds = divide(periods, self.numerator);
-        if seconds.quotient.high != 0 {
-            return Moment::Refused(7);
-        }
-        let left = Wide {
-            high: seconds.remainder,
-            low: 0,
-        };
-        let fraction = divide(left, self.numerator);
-        start.checked_add(Time {
-            seconds: seconds.quotient.low,
-            fraction: fraction.quotient.low,
-        })
-    }
-
     // The time of the edge of that number after the start; refusal 1 for a zero in the clock, 7 past the last time.
     pub fn after(self, edges: u64) -> Moment
         ensures { λ r. ⌜ r ≡ afterOf self edges ⌝ }
@@ -243,7 +239,15 @@ impl Clock {
         if zero {
             return Moment::Refused(1);
         }
-        self.edge(edges)
+        let start = self.start;
+        let periods = periods_of(edges, self.denominator);
+        edge_of(
+            start.seconds,
+            start.fraction,
+            self.numerator,
+            periods.high,
+            periods.low,
+        )
     }
 
     // How many edges after the start are earlier than the limit, at most 2^64 - 1.

@@ -1,8 +1,8 @@
 -- Laws on plain numbers that the divisions' proofs cite.
 -- Assumes nothing.
-use mathlib.Core.Path.{_≡_, refl, sym, ap, _∙_}
+use mathlib.Core.Path.{_≡_, refl, sym, ap, _∙_, subst}
 use Prim.Native.Nat.{ℕ, _+_, _-_, _*_, _/_, _%_, _^_, _≤_, _<_}
-use native.Mathlib.Nat.{zero-add, zero-mul, add-assoc, add-comm, add-left-comm, mul-assoc, mul-comm, mul-left-comm, mul-right-comm, mul-add, add-mul, mod-lt, div-add-mod', div-lt-iff-lt-mul, le-trans, le-of-eq, le-add-right, lt-of-le-of-lt, lt-of-mul-lt-mul-right, le-of-mul-le-mul-right, mul-le-mul-right, mul-le-mul-left, mul-lt-mul-of-pos-right, sub-add-cancel, add-mul-div-right, mul-div-cancel, pos-of-ne-zero, div-le-of-le-mul, div-le-self, lt-of-not-le}
+use native.Mathlib.Nat.{zero-add, zero-mul, add-assoc, add-comm, add-left-comm, mul-assoc, mul-comm, mul-left-comm, mul-right-comm, mul-add, add-mul, mod-lt, div-add-mod', div-lt-iff-lt-mul, le-div-iff-mul-le, le-trans, le-of-eq, le-of-lt, le-add-right, lt-of-le-of-lt, lt-of-mul-lt-mul-right, le-of-mul-le-mul-right, mul-le-mul-right, mul-le-mul-left, mul-lt-mul-of-pos-right, sub-add-cancel, add-mul-div-right, mul-div-cancel, pos-of-ne-zero, div-le-self, lt-of-not-le}
 use native.Mathlib.Omega.{arith}
 use lib.Pow.{pow-pos, split}
 use Rattle.words.specs.Words.{Divides}
@@ -98,17 +98,6 @@ module _ (h l m : ℕ) (top : 2 ^ 63 ≤ m) (word : m < 2 ^ 64) (less : h < m) (
   pub twice : have < take → m < take - have → Divides (h * 2 ^ 32 + l) m (q - 2) (m - (take - have - m))
   twice over beyond = record { whole = omega (arith, balance, fewer 2 (two-over over beyond), take-lt); less = omega arith }
 
--- the quotient of n * r by m, where r is at most m: the words b₁ and b₀ that make it have b₁ 0
-module _ (n r m : ℕ) (le : r ≤ m) where
-  share-le : n * r / m ≤ n
-  share-le = div-le-of-le-mul m (le-trans (mul-le-mul-left n le) (le-of-eq (mul-comm n m)))
-
-  pub share-low : (b₁ b₀ : ℕ) → n < 2 ^ 64 → b₁ * 2 ^ 64 + b₀ ≡ n * r / m → b₀ ≡ n * r / m
-  share-low b₁ b₀ word e = low b₁ b₀ (n * r / m) n e share-le word
-    where
-      low : (b₁ b₀ x n : ℕ) → b₁ * 2 ^ 64 + b₀ ≡ x → x ≤ n → n < 2 ^ 64 → b₀ ≡ x
-      low b₁ b₀ x n e le word = omega arith
-
 -- The quotient of n * 2 ^ 64 by m: 2 ^ 64 is t times m and r, of 1 to m, so that n * t and the quotient of n * r make it
 module _ (n m : ℕ) (pos : 0 < m) where
   abbrev t : ℕ
@@ -126,6 +115,13 @@ module _ (n m : ℕ) (pos : 0 < m) where
   scaled : n * 2 ^ 64 / m ≡ n * r / m + n * t
   scaled = ap (λ (x : ℕ). x / m) parts ∙ add-mul-div-right (n * r) (n * t) pos
 
+  -- the words h and l of n * r: the high one is below m
+  pub left-below : (h l : ℕ) → n < 2 ^ 64 → h * 2 ^ 64 + l ≡ n * r → h < m
+  left-below h l word words = omega (arith, mul-le-mul-left n rest-le, mul-lt-mul-of-pos-right word pos)
+
+  pub reciprocal-pos : m < 2 ^ 64 → 0 < t
+  reciprocal-pos word = le-div-iff-mul-le {k = m} {x = 1} {y = 2 ^ 64 - 1} pos .1 (omega arith)
+
   module _ (a₁ a₀ b s₁ s₀ : ℕ) (times : a₁ * 2 ^ 64 + a₀ ≡ n * t) (rest : b ≡ n * r / m) (sums : s₁ * 2 ^ 64 + s₀ ≡ a₀ + b) where
     pub scaled-words : (a₁ + s₁) * 2 ^ 64 + s₀ ≡ n * 2 ^ 64 / m
     scaled-words = omega (arith, scaled)
@@ -133,18 +129,70 @@ module _ (n m : ℕ) (pos : 0 < m) where
     pub scaled-fit : n < 2 ^ 64 → a₁ + s₁ < 2 ^ 64
     scaled-fit word = lt-of-le-of-lt (le-of-mul-le-mul-right {m = a₁ + s₁} {n = n} {k = 2 ^ 64} (le-trans (le-trans (le-add-right ((a₁ + s₁) * 2 ^ 64) s₀) (le-of-eq scaled-words)) (div-le-self (n * 2 ^ 64) m)) (pow-pos 64)) word
 
--- The quotient of a word x by m from the reciprocal t of m: x * t makes the words e and l, and e is the quotient or one less
+-- The quotient of x by m from the reciprocal t of m: x * t is e * 2 ^ 64 + l, and e is near the quotient, the nearer the smaller x is
 module _ (x m e : ℕ) where
-  pub near : (l : ℕ) (pos : 0 < m) → x < 2 ^ 64 → l < 2 ^ 64 → e * 2 ^ 64 + l ≡ x * t x m pos → (e * m ≤ x) × (x < e * m + m + m)
-  near l pos hx hl words = (omega (arith, whole), omega (arith, whole, mul-lt-mul-of-pos-right hl pos, mul-le-mul-left x (rest-le x m pos), mul-lt-mul-of-pos-right hx pos))
+  within : (y l : ℕ) (pos : 0 < m) → x < y * 2 ^ 64 → l < 2 ^ 64 → e * 2 ^ 64 + l ≡ x * t x m pos → (e * m ≤ x) × (x < e * m + m + y * m)
+  within y l pos hx hl words =
+      let most : x * m < y * m * 2 ^ 64 = subst (λ (z : ℕ). x * m < z) (mul-right-comm y (2 ^ 64) m) (mul-lt-mul-of-pos-right hx pos) in
+      (omega (arith, whole), omega (arith, whole, most, mul-lt-mul-of-pos-right hl pos, mul-le-mul-left x (rest-le x m pos)))
     where
       whole : x * 2 ^ 64 ≡ x * r x m pos + (e * m * 2 ^ 64 + l * m)
       whole =
           parts x m pos
           ∙ ap (λ (y : ℕ). x * r x m pos + y) (ap (λ (y : ℕ). y * m) (sym words) ∙ add-mul (e * 2 ^ 64) l m ∙ ap (λ (y : ℕ). y + l * m) (mul-right-comm e (2 ^ 64) m))
 
+  -- of a word: the quotient or one less
+  pub near : (l : ℕ) (pos : 0 < m) → x < 2 ^ 64 → l < 2 ^ 64 → e * 2 ^ 64 + l ≡ x * t x m pos → (e * m ≤ x) × (x < e * m + m + m)
+  near l pos hx hl words = let both = within 1 l pos (omega arith) hl words in (both .0, omega (arith, both .1))
+
   pub near-is : e * m ≤ x → x - e * m < m → e ≡ x / m
   near-is le less = sym (quotient-is (record { whole = omega arith; less = less }))
 
   pub near-less : (e * m ≤ x) × (x < e * m + m + m) → m ≤ x - e * m → e + 1 ≡ x / m
   near-less both more = sym (quotient-is {r = x - e * m - m} (record { whole = omega (arith, both .0, add-mul e 1 m); less = omega (arith, both .1) }))
+
+-- of two words x₁ and x₀: what e leaves is a word, and its quotient is to be added
+module _ (x₁ m k : ℕ) (above : x₁ < m) (reciprocal : k ≡ (2 ^ 64 - 1) / m) where
+  times-le : k * m ≤ 2 ^ 64 - 1
+  times-le = omega (arith, ap (λ (y : ℕ). y * m) reciprocal, div-add-mod' (2 ^ 64 - 1) m)
+
+  pub high-times-fits : x₁ * k < 2 ^ 64
+  high-times-fits = omega (arith, mul-le-mul-right k (le-of-lt above), mul-comm m k, times-le)
+
+  module _ (x₀ e₁ l : ℕ) (few : x₁ + 2 ≤ k) (hx : x₀ < 2 ^ 64) (hl : l < 2 ^ 64) (words : e₁ * 2 ^ 64 + l ≡ x₀ * k) where
+    abbrev x : ℕ
+    x = x₁ * 2 ^ 64 + x₀
+
+    abbrev e : ℕ
+    e = x₁ * k + e₁
+
+    pos : 0 < m
+    pos = omega arith
+
+    both : (e * m ≤ x) × (x < e * m + m + (x₁ + 1) * m)
+    both = within x m e (x₁ + 1) l pos (omega arith) hl (joined x₁ x₀ k e₁ l words ∙ ap (λ (y : ℕ). x * y) reciprocal)
+      where
+        joined : (x₁ x₀ k e₁ l : ℕ) → e₁ * 2 ^ 64 + l ≡ x₀ * k → (x₁ * k + e₁) * 2 ^ 64 + l ≡ (x₁ * 2 ^ 64 + x₀) * k
+        joined x₁ x₀ k e₁ l f = omega (arith, add-mul (x₁ * 2 ^ 64) x₀ k, mul-right-comm x₁ (2 ^ 64) k)
+
+    x-lt : x < 2 ^ 64 * m
+    x-lt = omega arith
+
+    pub wide-near-fits : e < 2 ^ 64
+    wide-near-fits = lt-of-mul-lt-mul-right m {m = e} {n = 2 ^ 64} (lt-of-le-of-lt (both .0) x-lt)
+
+    left-lt : x - e * m < 2 ^ 64
+    left-lt = omega (arith, both .1, add-mul x₁ 1 m, add-mul x₁ 2 m, mul-le-mul-right m few, times-le)
+
+    -- the words of e * m are p₁ and p₀, and w is the difference of the low words, wrapped
+    pub left-is : (p₁ p₀ w : ℕ) → p₁ * 2 ^ 64 + p₀ ≡ e * m → w < 2 ^ 64 → (w + p₀) % 2 ^ 64 ≡ x₀ → w ≡ x - e * m
+    left-is p₁ p₀ w f word wraps = low x₁ x₀ p₁ p₀ w (e * m) f word hx wraps (both .0) left-lt
+      where
+        low : (x₁ x₀ p₁ p₀ w n : ℕ) → p₁ * 2 ^ 64 + p₀ ≡ n → w < 2 ^ 64 → x₀ < 2 ^ 64 → (w + p₀) % 2 ^ 64 ≡ x₀ → n ≤ x₁ * 2 ^ 64 + x₀ → x₁ * 2 ^ 64 + x₀ - n < 2 ^ 64 → w ≡ x₁ * 2 ^ 64 + x₀ - n
+        low x₁ x₀ p₁ p₀ w n f word hx wraps le less = omega arith
+
+    pub wide-is : e + (x - e * m) / m ≡ x / m
+    wide-is = add-comm e ((x - e * m) / m) ∙ sym (add-mul-div-right (x - e * m) e pos) ∙ ap (λ (y : ℕ). y / m) (sub-add-cancel (both .0))
+
+    pub wide-fits : x / m < 2 ^ 64
+    wide-fits = div-lt-iff-lt-mul {k = m} {x = x} {y = 2 ^ 64} pos .1 x-lt

@@ -38,8 +38,8 @@ pub fn sum(a: u64, b: u64) -> Wide
     Wide { high, low }
 }
 
-// The whole product of two words, from the four products of their halves: carried up for the high word, and wrapped for the
-// low one, two forms in which the compiler sees the machine's own product.
+// The whole product of two words, from the four products of their halves. The sum of the two products across wraps, with its
+// carry as in `sum`; in this form the compiler sees the machine's own product.
 pub fn product(a: u64, b: u64) -> Wide
     ensures { λ r. ⌜ valueOf r ≡ a * b ⌝ }
 {
@@ -48,14 +48,14 @@ pub fn product(a: u64, b: u64) -> Wide
     let b1 = b / 0x1_0000_0000;
     let b0 = b % 0x1_0000_0000;
     let bottom = a0 * b0;
-    let left = a1 * b0;
-    let right = a0 * b1;
-    let middle = left + bottom / 0x1_0000_0000;
-    let upper = right + middle % 0x1_0000_0000;
-    let across = std::num::wrapping_add_u64(left, right);
+    let across = sum(a1 * b0, a0 * b1);
+    let middle = bottom / 0x1_0000_0000 + across.low % 0x1_0000_0000;
     Wide {
-        high: a1 * b1 + middle / 0x1_0000_0000 + upper / 0x1_0000_0000,
-        low: std::num::wrapping_add_u64(across % 0x1_0000_0000 * 0x1_0000_0000, bottom),
+        high: a1 * b1
+            + across.high * 0x1_0000_0000
+            + across.low / 0x1_0000_0000
+            + middle / 0x1_0000_0000,
+        low: middle % 0x1_0000_0000 * 0x1_0000_0000 + bottom % 0x1_0000_0000,
     }
 }
 
@@ -219,16 +219,31 @@ fn by_reciprocal(x: u64, reciprocal: u64, by: u64) -> u64
     times.high + 1
 }
 
-// The quotient of n * part by a word that is no smaller than the part, and so at most n.
-fn share(n: u64, part: u64, reciprocal: u64, by: u64) -> u64
-    requires { ⌜ (0 < by) × (part ≤ by) × (reciprocal ≡ (2 ^ 64 - 1) / by) ⌝ }
-    ensures { λ r. ⌜ r ≡ n * part / by ⌝ }
+// The quotient of two words by a word above the high one, from the divisor's reciprocal: the upper words of their product are
+// the quotient or less, and what they leave is a word, whose quotient is added.
+fn wide_by_reciprocal(n: Wide, reciprocal: u64, by: u64) -> u64
+    requires { ⌜ (n .high < by) × (reciprocal ≡ (2 ^ 64 - 1) / by) × (n .high + 2 ≤ reciprocal) ⌝ }
+    ensures { λ r. ⌜ r ≡ valueOf n / by ⌝ }
 {
-    let times = product(n, part);
-    if times.high == 0 {
-        return by_reciprocal(times.low, reciprocal, by);
+    let lower = product(n.low, reciprocal);
+    let near = n.high * reciprocal + lower.high;
+    let taken = product(near, by);
+    let rest = std::num::wrapping_sub_u64(n.low, taken.low);
+    near + by_reciprocal(rest, reciprocal, by)
+}
+
+// The quotient of two words by a word above the high one, and so one word.
+fn one_word_quotient(n: Wide, reciprocal: u64, by: u64) -> u64
+    requires { ⌜ (n .high < by) × (reciprocal ≡ (2 ^ 64 - 1) / by) ⌝ }
+    ensures { λ r. ⌜ r ≡ valueOf n / by ⌝ }
+{
+    if n.high == 0 {
+        return by_reciprocal(n.low, reciprocal, by);
     }
-    divide(times, by).quotient.low
+    if n.high < reciprocal - 1 {
+        return wide_by_reciprocal(n, reciprocal, by);
+    }
+    divide_part(n.high, n.low, by).quotient
 }
 
 // The quotient of n * 2^64 by a power of two, by shifts.
@@ -255,7 +270,8 @@ pub fn scaled_quotient(n: u64, by: u64) -> Wide
     }
     let reciprocal = u64::MAX / by;
     let times = product(n, reciprocal);
-    let low = sum(times.low, share(n, u64::MAX % by + 1, reciprocal, by));
+    let left = product(n, u64::MAX % by + 1);
+    let low = sum(times.low, one_word_quotient(left, reciprocal, by));
     Wide {
         high: times.high + low.high,
         low: low.low,

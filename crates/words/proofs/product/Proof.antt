@@ -1,12 +1,10 @@
 -- `words::product` meets its contract: `whole` of Numbers.antt adds the four products of the halves.
 -- Assumes nothing.
-use mathlib.Core.Path.{ap, _∙_}
-use Prim.Native.Nat.{ℕ, _+_, _*_, _%_, _^_, _<_}
-use native.Mathlib.Nat.{le-add-right, lt-of-le-of-lt}
+use Prim.Native.Nat.{ℕ, _+_, _*_, _/_, _%_, _^_, _<_}
 use native.Mathlib.Omega.{arith}
 use mir.Syntax.{w64}
 use mir.Val.{Fits}
-use Rattle.words.proofs.Numbers.{below, bottom, top, middle-fits, upper-fits, top-fits, whole}
+use Rattle.words.proofs.Numbers.{below, top-fits, whole}
 use borrow.Author.Needs.{needs}
 use Rattle.words.proofs.product.Statement.{statement}
 use Rattle.words.proofs.product.Tie as tie
@@ -15,60 +13,83 @@ use Rattle.words.proofs.product.Tie as tie
 fits : {x y : ℕ} → x < 2 ^ 32 → y < 2 ^ 32 → Fits w64 (x * y)
 fits hx hy = record { fits = below 32 hx hy }
 
+-- the high word
+high-fits : (k : tie.After-sum) →
+    let a = k .before .args .a in
+    let b = k .before .args .b in
+    let w = k .sum .result in
+    a / 2 ^ 32 * (b / 2 ^ 32) + w .high * 2 ^ 32 + w .low / 2 ^ 32 + (a % 2 ^ 32 * (b % 2 ^ 32) / 2 ^ 32 + w .low % 2 ^ 32) / 2 ^ 32 < 2 ^ 64
+high-fits k =
+    let s = k .before in
+    top-fits (s .args .a) (s .args .b) (k .sum .result .high) (k .sum .result .low) (k .sum .ensures) (s .fits .a .fits) (s .fits .b .fits)
+
+second : (s u v w : ℕ) → s + u + v + w < 2 ^ 64 → u < 2 ^ 64
+second s u v w h = omega arith
+
+both : (s u v w : ℕ) → s + u + v + w < 2 ^ 64 → s + u < 2 ^ 64
+both s u v w h = omega arith
+
+three : (s u v w : ℕ) → s + u + v + w < 2 ^ 64 → s + u + v < 2 ^ 64
+three s u v w h = omega arith
+
+halves-fit : (p m : ℕ) → p < 2 ^ 64 → p / 2 ^ 32 + m % 2 ^ 32 < 2 ^ 64
+halves-fit p m h = omega arith
+
 mul-bottom : tie.Need-mul-bottom
 mul-bottom c = fits (omega arith) (omega arith)
 
-mul-left : tie.Need-mul-left
-mul-left c = fits (omega arith) (omega arith)
+mul-sum : tie.Need-mul-sum
+mul-sum c = fits (omega arith) (omega arith)
 
-mul-right : tie.Need-mul-right
-mul-right c = fits (omega arith) (omega arith)
+mul-sum-2 : tie.Need-mul-sum-2
+mul-sum-2 c = fits (omega arith) (omega arith)
+
+sum-requires : tie.Need-sum-requires
+sum-requires c κs = search needs
 
 add-middle : tie.Need-add-middle
-add-middle c = record { fits = middle-fits (c .args .a) (c .args .b) (c .fits .a .fits) (c .fits .b .fits) }
+add-middle c = record { fits = halves-fit _ _ (below 32 (omega arith) (omega arith)) }
 
-add-upper : tie.Need-add-upper
-add-upper c = record { fits = upper-fits (c .args .a) (c .args .b) (c .fits .a .fits) (c .fits .b .fits) }
+mul-t10 : tie.Need-mul-t10
+mul-t10 c = fits (omega arith) (omega arith)
 
-wrapping-add-u64-requires : tie.Need-wrapping-add-u64-requires
-wrapping-add-u64-requires c κs = search needs
+mul-t11 : tie.Need-mul-t11
+mul-t11 c = record { fits = second _ _ _ _ (high-fits (c .before .before)) }
 
-mul-t13 : tie.Need-mul-t13
-mul-t13 c = fits (omega arith) (omega arith)
+add-t12 : tie.Need-add-t12
+add-t12 c = record { fits = both _ _ _ _ (high-fits (c .before .before)) }
 
-add-t15 : tie.Need-add-t15
-add-t15 c = let s = c .before in record { fits = lt-of-le-of-lt (le-add-right _ _) (top-fits (s .args .a) (s .args .b) (s .fits .a .fits) (s .fits .b .fits)) }
+add-t14 : tie.Need-add-t14
+add-t14 c = record { fits = three _ _ _ _ (high-fits (c .before .before .before)) }
 
-add-t17 : tie.Need-add-t17
-add-t17 c = let s = c .before in record { fits = top-fits (s .args .a) (s .args .b) (s .fits .a .fits) (s .fits .b .fits) }
+add-t16 : tie.Need-add-t16
+add-t16 c = record { fits = high-fits (c .before .before .before) }
 
-mul-wrapping-add-u64 : tie.Need-mul-wrapping-add-u64
-mul-wrapping-add-u64 c = search needs
+mul-t18 : tie.Need-mul-t18
+mul-t18 c = search needs
 
-wrapping-add-u64-requires-2 : tie.Need-wrapping-add-u64-requires-2
-wrapping-add-u64-requires-2 c κs = search needs
+add-t20 : tie.Need-add-t20
+add-t20 c = search needs
 
 returns : tie.Need-returns
 returns c =
-    let w = c .wrapping-add-u642 in
-    let x = c .before .wrapping-add-u64 in
-    let a = c .before .before .args .a in
-    let b = c .before .before .args .b in
-    ap (λ (l : ℕ). top a b * 2 ^ 64 + l) (w .ensures ∙ ap (λ (n : ℕ). (n % 2 ^ 32 * 2 ^ 32 + bottom a b) % 2 ^ 64) (x .ensures)) ∙ whole a b
+    let k = c .before .before .before in
+    whole (k .before .args .a) (k .before .args .b) (k .sum .result .high) (k .sum .result .low) (k .sum .ensures)
 
 pub product-spec : {M : Type 1} → statement M
 product-spec =
     tie.close
     (tie.spec
     mul-bottom
-    mul-left
-    mul-right
+    mul-sum
+    mul-sum-2
+    sum-requires
     add-middle
-    add-upper
-    wrapping-add-u64-requires
-    mul-t13
-    add-t15
-    add-t17
-    mul-wrapping-add-u64
-    wrapping-add-u64-requires-2
+    mul-t10
+    mul-t11
+    add-t12
+    add-t14
+    add-t16
+    mul-t18
+    add-t20
     returns)

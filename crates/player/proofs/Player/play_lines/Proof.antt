@@ -6,9 +6,10 @@ use Prim.Native.Nat.{ℕ, _+_, _-_, _≤_, _<_}
 use native.Mathlib.Omega.{arith}
 use borrow.Author.Needs.{needs}
 use lib.ListN.{length}
-use Rattle.player.specs.LineLaws.{line-none, lines-end}
+use Rattle.player.specs.LineLaws.{line-within, line-none, lines-end}
 use Rattle.player.specs.Puts.{Put}
 use Rattle.player.specs.Answers.{textOf}
+use Rattle.player.specs.Trace.{traceClocks}
 use Rattle.player.proofs.Puts.{put-within}
 use Rattle.player.proofs.Tails.{tail-mid, tail-put, part-long}
 use Rattle.player.proofs.Runs.{Going, going, going-as, finish, no-room, again, run-none, run-over}
@@ -16,20 +17,17 @@ use Rattle.player.proofs.Player.play_lines.Statement.{statement}
 use Rattle.player.proofs.Player.play_lines.Tie as tie
 
 abbrev Inv-loop : tie.InvT-loop
-Inv-loop part ended out₀ clocks host₀ lines₀ at₀ written₀ out host lines at written =
-    Going clocks ended part out₀ (record { lines = lines₀; host = host₀ }) out (record { lines = lines; host = host }) at written
+Inv-loop part ended out₀ host₀ lines₀ at₀ written₀ out host lines at written =
+    Going traceClocks ended part out₀ (record { lines = lines₀; host = host₀ }) out (record { lines = lines; host = host }) at written
 
 abbrev μ-loop : tie.MeasureT-loop
-μ-loop part ended out₀ clocks host₀ lines₀ at₀ written₀ out host lines at written = length part - at
-
-trace-clocks-requires : tie.Need-trace-clocks-requires Inv-loop μ-loop
-trace-clocks-requires c κs = search needs
+μ-loop part ended out₀ host₀ lines₀ at₀ written₀ out host lines at written = length part - at
 
 loop-holds : tie.Need-loop-holds Inv-loop μ-loop
-loop-holds c = let a = c .before .before .before .before .args in going _ (a .ended) (a .part .now) (a .out .now) _
+loop-holds c = let a = c .before .before .before .args in going _ (a .ended) (a .part .now) (a .out .now) _
 
 line-end-requires : tie.Need-line-end-requires Inv-loop μ-loop
-line-end-requires c κs = omega (arith, c .before .loop-test .taken)
+line-end-requires c κs = search needs
 
 sub-if3 : tie.Need-sub-if3 Inv-loop μ-loop
 sub-if3 c = let g = c .before .before .before .before .loop .inv in omega (arith, g .written-le, g .long)
@@ -42,20 +40,19 @@ returns c =
     let e = c .before .before .line-end in
     let t = c .before .before .before .before in
     let v = t .before .loop in
-    let a = c .before .before .before .before .before .before .before .before .before .before .args in
-    let k = c .before .before .before .before .before .before .before .trace-clocks in
-    finish (v .inv) (k .ensures) 6
-    (no-room (v .inv) (e .result) (t .loop-test .taken) (c .before .before .before .if1 .left) (e .ensures .0) (e .ensures .1) (c .before .if2 .left)
+    let a = c .before .before .before .before .before .before .before .before .before .args in
+    finish (v .inv) 6
+    (no-room (v .inv) (e .result) (t .loop-test .taken) (c .before .before .before .if1 .left) (e .ensures) (line-within _ _ _ (t .loop-test .taken) (e .ensures)) (c .before .if2 .left)
     (subst (λ (n : ℕ). n - v .written < 80) (v .inv .long) (c .if3 .taken)))
 
 sub-answer : tie.Need-sub-answer Inv-loop μ-loop
-sub-answer c = let e = c .before .before .line-end .ensures .0 in omega arith
+sub-answer c = let e = c .before .before .line-end .ensures in omega arith
 
 part-answer-start : tie.Need-part-answer-start Inv-loop μ-loop
-part-answer-start c = let e = c .before .before .line-end .ensures .0 in omega arith
+part-answer-start c = let e = c .before .before .line-end .ensures in omega arith
 
 part-answer-end : tie.Need-part-answer-end Inv-loop μ-loop
-part-answer-end c = c .before .before .line-end .ensures .1
+part-answer-end c = line-within _ _ _ (c .before .before .before .before .loop-test .taken) (c .before .before .line-end .ensures)
 
 answer-requires : tie.Need-answer-requires Inv-loop μ-loop
 answer-requires c κs = search needs
@@ -82,14 +79,14 @@ add-written c =
     let w = c .before .before .write in
     let v = c .before .before .before .before .before .before .before .before .before .before .before .before .loop in
     let in-part : w .result ≤ length (v .out) - v .written = subst (λ (n : ℕ). w .result ≤ n) (part-long (v .written) (v .out)) (put-within (w .ensures) (w .kept .1 .0)) in
-    omega (arith, v .inv .long, v .inv .written-le, c .before .before .before .before .before .before .before .before .before .before .before .before .before .before .before .before .before .good)
+    omega (arith, v .inv .long, v .inv .written-le, c .before .before .before .before .before .before .before .before .before .before .before .before .before .before .before .before .good)
 
 past-requires : tie.Need-past-requires Inv-loop μ-loop
-past-requires c κs = c .before .before .before .before .before .before .before .before .before .line-end .ensures .1
+past-requires c κs = search needs
 
 loop-less : tie.Need-loop-less Inv-loop μ-loop
 loop-less c =
-    let e = c .before .before .before .before .before .before .before .before .before .before .line-end .ensures .0 in
+    let e = c .before .before .before .before .before .before .before .before .before .before .line-end .ensures in
     let t = c .before .before .before .before .before .before .before .before .before .before .before .before .loop-test .taken in
     let p = c .past .ensures in
     omega arith
@@ -100,7 +97,7 @@ loop-again c =
     let e = c .before .before .before .before .before .before .before .before .before .before .line-end in
     let v = c .before .before .before .before .before .before .before .before .before .before .before .before .before .loop in
     going-as (sym (tail-put (v .written) (v .out) (w .last .1 .0)))
-    (again (v .inv) (e .result) (c .before .before .before .before .before .before .before .before .before .before .before .before .loop-test .taken) (c .before .before .before .before .before .before .before .before .before .before .before .if1 .left) (e .ensures .0) (e .ensures .1) (c .before .before .before .before .before .before .before .before .before .if2 .left)
+    (again (v .inv) (e .result) (c .before .before .before .before .before .before .before .before .before .before .before .before .loop-test .taken) (c .before .before .before .before .before .before .before .before .before .before .before .if1 .left) (e .ensures) (line-within _ _ _ (c .before .before .before .before .before .before .before .before .before .before .before .before .loop-test .taken) (e .ensures)) (c .before .before .before .before .before .before .before .before .before .if2 .left)
     (subst (λ (n : ℕ). 80 ≤ n - v .written) (v .inv .long) (c .before .before .before .before .before .before .before .before .if3 .left))
     (c .before .before .before .before .before .before .answer .result) (c .before .before .before .before .before .before .answer .ensures) (w .last .1 .0) (w .result) (c .past .result)
     (subst (λ (l : List ℕ). Put l (w .last .1 .0) 0 (w .result) (textOf (v .lines + 1) (c .before .before .before .before .before .before .answer .result))) (tail-mid (v .written) (v .out)) (w .ensures))
@@ -112,14 +109,14 @@ same-length-2 c = c .before .loop .inv .long
 returns-2 : tie.Need-returns-2 Inv-loop μ-loop
 returns-2 c =
     let v = c .before .loop in
-    let a = c .before .before .before .before .before .before .args in
-    finish (v .inv) (c .before .before .before .trace-clocks .ensures) 0 (run-none _ _ _ _ (lines-end (a .ended) (a .part .now) (v .at) (c .loop-test .left)))
+    let a = c .before .before .before .before .before .args in
+    finish (v .inv) 0 (run-none _ _ _ _ (lines-end (a .ended) (a .part .now) (v .at) (c .loop-test .left)))
 
 same-length-3 : tie.Need-same-length-3 Inv-loop μ-loop
 same-length-3 c = c .before .before .loop .inv .long
 
 returns-3 : tie.Need-returns-3 Inv-loop μ-loop
-returns-3 c = finish (c .before .before .loop .inv) (c .before .before .before .before .trace-clocks .ensures) 0 (run-over _ _ _ _ (c .if1 .taken))
+returns-3 c = finish (c .before .before .loop .inv) 0 (run-over _ _ _ _ (c .if1 .taken))
 
 same-length-4 : tie.Need-same-length-4 Inv-loop μ-loop
 same-length-4 c = c .before .before .before .before .loop .inv .long
@@ -129,9 +126,9 @@ returns-4 c =
     let e = c .before .line-end in
     let t = c .before .before .before in
     let v = t .before .loop in
-    let a = c .before .before .before .before .before .before .before .before .before .args in
-    finish (v .inv) (c .before .before .before .before .before .before .trace-clocks .ensures) 0
-    (run-none _ _ _ _ (line-none (a .ended) (a .part .now) (v .at) (e .result) (t .loop-test .taken) (e .ensures .0) (e .ensures .1) (c .if2 .taken)))
+    let a = c .before .before .before .before .before .before .before .before .args in
+    finish (v .inv) 0
+    (run-none _ _ _ _ (line-none (a .ended) (a .part .now) (v .at) (e .result) (t .loop-test .taken) (e .ensures) (line-within _ _ _ (t .loop-test .taken) (e .ensures)) (c .if2 .taken)))
 
 pub play-lines-spec : {M : Type 1} → statement M
 play-lines-spec =
@@ -139,7 +136,6 @@ play-lines-spec =
     (tie.spec
     Inv-loop
     μ-loop
-    trace-clocks-requires
     loop-holds
     line-end-requires
     sub-if3

@@ -1,8 +1,10 @@
--- `time::Clock::after` meets its contract: `has_zero` tells which case it is, and `edge` works the time out.
+-- `time::Clock::after` meets its contract: `has_zero` tells which case it is, and `edge_of` works the time out.
 -- Assumes nothing.
-use mathlib.Core.Path.{sym, _∙_}
-use Rattle.time.specs.Clock.{afterOf}
-use Rattle.time.specs.Laws.{no-zero}
+use Prim.Native.Nat.{ℕ, _+_, _*_, _/_, _^_}
+use mathlib.Core.Path.{sym, ap, _∙_}
+use Rattle.time.specs.Time.{timeOf, momentOf}
+use Rattle.time.specs.Clock.{edgeOf, afterOf}
+use Rattle.time.specs.Laws.{no-zero, after-is}
 use borrow.Author.Needs.{needs}
 use Rattle.time.proofs.Clock.after.Statement.{statement}
 use Rattle.time.proofs.Clock.after.Tie as tie
@@ -14,12 +16,24 @@ returns : tie.Need-returns
 unfolding afterOf
 returns c = simp (← c .before .has-zero .ensures, c .if1 .taken)
 
-edge-requires : tie.Need-edge-requires
-edge-requires c κs = no-zero (c .before .before .args .self) (sym (c .before .has-zero .ensures) ∙ c .if1 .left) .0
+periods-of-requires : tie.Need-periods-of-requires
+periods-of-requires c κs = search needs
+
+edge-of-requires : tie.Need-edge-of-requires
+edge-of-requires c κs =
+    let e = c .before .before in
+    no-zero (e .before .before .args .self) (sym (e .before .has-zero .ensures) ∙ e .if1 .left) .0
 
 returns-2 : tie.Need-returns-2
-unfolding afterOf
-returns-2 c = simp (c .edge .ensures, ← c .before .before .has-zero .ensures, c .before .if1 .left)
+unfolding edgeOf
+returns-2 c =
+    let p = c .before in
+    let e = p .before .before in
+    let a = e .before .before .args in
+    c .edge-of .ensures
+    ∙ ap (λ (n : ℕ). momentOf (timeOf (a .self .start) + n * 2 ^ 64 / a .self .numerator)) (p .periods-of .ensures)
+    ∙ sym (after-is (a .self) (a .edges) (sym (e .before .has-zero .ensures) ∙ e .if1 .left))
 
 pub after-spec : {M : Type 1} → statement M
-after-spec = tie.close (tie.spec has-zero-requires returns edge-requires returns-2)
+after-spec =
+    tie.close (tie.spec has-zero-requires returns periods-of-requires edge-of-requires returns-2)
