@@ -38,7 +38,7 @@ pub fn compare(options: &Options) -> u64 {
     tally.print();
     let missing = tally.rare.print(&tally, options);
     println!(
-        "iic: seed {}, {} calls, each with 14 questions after it, {seconds:.1} s, {:.2} million calls a second",
+        "iic: seed {}, {} calls, each with 13 questions after it, {seconds:.1} s, {:.2} million calls a second",
         options.seed,
         tally.calls(),
         tally.calls() as f64 / seconds / 1e6

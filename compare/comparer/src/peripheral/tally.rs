@@ -19,7 +19,7 @@ pub fn name(origin: Origin) -> &'static str {
 
 #[derive(Default)]
 pub struct Tally {
-    /// By origin, runs and their calls; each call is followed by fourteen that can't change the state.
+    /// By origin, runs and their calls; each call is followed by thirteen that can't change the state.
     pub runs: [u64; ORIGINS.len()],
     pub calls: [u64; ORIGINS.len()],
     pub refused: Refusals,
