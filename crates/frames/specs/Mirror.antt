@@ -11,6 +11,6 @@ unfoldable pub mirrorOf : ℕ → ℕ
 mirrorOf b =
     bitOf 7 b + bitOf 6 b * 2 + bitOf 5 b * 4 + bitOf 4 b * 8 + bitOf 3 b * 16 + bitOf 2 b * 32 + bitOf 1 b * 64 + bitOf 0 b * 128
 
--- mirrored where MLS says that the low bit goes first (iic.rs 350, 685)
+-- mirrored where ICMR's MLS says that the low bit goes first (iic.rs 350, 685)
 unfoldable pub ordered : Bool → ℕ → ℕ
 ordered lowFirst b = cond lowFirst (mirrorOf b) b

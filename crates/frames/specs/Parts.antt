@@ -22,7 +22,7 @@ isDone Data = false
 isDone Ack = false
 isDone Done = true
 
--- the bits of a frame: eight for an address or a count of 0 (331, 571)
+-- the bits of a frame: eight for an address or where ICMR's BC is 0 (331, 571)
 abbrev pub bitsOf : Bool → ℕ → ℕ
 bitsOf address n = cond (address || eqb n 0) 8 n
 
@@ -52,7 +52,7 @@ sampled lost sda f = record { shift = shiftIn (f .shift) sda; remaining = f .rem
 abbrev pub marked : Bool → Frame → Frame
 marked last f = record { shift = f .shift; remaining = f .remaining; phase = f .phase; address = f .address; transmit = f .transmit; loaded = f .loaded; last = last }
 
--- the bit count was written (331)
+-- ICMR's BC was written (331)
 abbrev pub recounted : ℕ → Frame → Frame
 recounted n f = record { shift = f .shift; remaining = bitsOf false n; phase = f .phase; address = f .address; transmit = f .transmit; loaded = f .loaded; last = f .last }
 
@@ -60,7 +60,7 @@ recounted n f = record { shift = f .shift; remaining = bitsOf false n; phase = f
 abbrev pub directed : Bool → Bool → Frame → Frame
 directed transmit master f = turned (transmit && (master || not (f .address))) f
 
--- MST or TRS was written; a receiver's byte is the last where RCVD is written (276 to 278)
+-- ICCR1's MST or TRS was written; a receiver's byte is the last where RCVD is written (276 to 278)
 unfoldable pub redirectFrame : Bool → Bool → Bool → Frame → Frame
 redirectFrame transmit master last f = marked (not transmit && last) (directed transmit master f)
 
@@ -81,7 +81,7 @@ abbrev pub yieldIn : Framing → Framing
 yieldIn NoFrame = NoFrame
 yieldIn (InFrame f) = InFrame (yielded f)
 
--- ICDRR was read: the byte under way is the last where RCVD is set, unless it is an address or is through (240)
+-- ICDRR was read: the byte under way is the last where ICCR1's RCVD is set, unless it is an address or is through (240)
 abbrev pub markIn : Framing → Bool → Framing
 markIn NoFrame last = NoFrame
 markIn (InFrame f) last = cond (isDone (f .phase) || f .address) (InFrame f) (InFrame (marked last f))
@@ -92,14 +92,14 @@ redirectIn NoFrame transmit master last scl = NoFrame
 redirectIn (InFrame f) transmit master last scl =
     cond (isData (f .phase) && not scl) (InFrame (redirectFrame transmit master last f)) (InFrame f)
 
--- ICMR was written: the bit count is that of a data phase that is no address (330)
+-- ICMR was written: its BC is that of a data phase that is no address (330)
 abbrev pub recountIn : Framing → ℕ → Framing
 recountIn NoFrame n = NoFrame
 recountIn (InFrame f) n = cond (isData (f .phase) && not (f .address)) (InFrame (recounted n f)) (InFrame f)
 
 -- ## What is asked where there may be no frame
 
--- the bit count: what a frame has to go, else as written (207)
+-- ICMR's BC: what a frame has to go, else as written (207)
 abbrev pub shownCount : Framing → ℕ → ℕ
 shownCount NoFrame n = n
 shownCount (InFrame f) n = bitAnd (f .remaining) 7
@@ -109,7 +109,7 @@ abbrev pub isDoneIn : Framing → Bool
 isDoneIn NoFrame = false
 isDoneIn (InFrame f) = isDone (f .phase)
 
--- the bits to go that a phase allows (904)
+-- document 01, 10: the bits to go that a phase allows (904)
 abbrev pub progressAt : Phase → ℕ → Bool
 progressAt Data n = ltb 0 n && ltb n 9
 progressAt Ack n = eqb n 0

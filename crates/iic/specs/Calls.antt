@@ -56,7 +56,7 @@ writeOf s a value now k = writeBy (hasZero k) s a value now (k .system)
 
 -- ## Levels: `input_pins`, `pins` (430, 184)
 
--- levels equal to those held as given change nothing (437)
+-- document 01, idle calls: levels equal to those held as given change nothing (437)
 unfoldable pub takePinsOf : Levels → Time → Domain → Iic → Stepped
 takePinsOf given now system s = cond (sameLevels (s .lines .raw) given) (fine s) (scheduleFilterOf now system (setRaw given s))
 
@@ -88,7 +88,7 @@ gateTurned gate now k s =
     cond gate (andThen (andThen (turnWaitsOf gate now k s) (scheduleFilterOf now (k .system))) (kickOf now (k .system)))
     (turnWaitsOf gate now k s)
 
--- an equal gate changes nothing (381)
+-- document 01, idle calls: an equal gate changes nothing (381)
 unfoldable pub turnGateOf : Bool → Time → Clocks → Iic → Stepped
 turnGateOf gate now k s = cond (Bool·beq (s .flags .gate) gate) (fine s) (gateTurned gate now k (setGate gate s))
 

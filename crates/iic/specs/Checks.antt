@@ -38,11 +38,11 @@ halvesRefusal s = cond (shortHalf (s .«clock_wait») && shortHalf (s .«monitor
 
 -- ## Interrupts
 
--- NAKIE asks for AL, and outside synchronous mode for NACKF (195)
+-- ICIER's NAKIE asks for ICSR's AL, and outside synchronous mode for its NACKF (195)
 abbrev pub nackMask : Iic → ℕ
 nackMask s = bitOr AL (flag (not (synchronous s)) NACKF)
 
--- a flag and its enable: TDRE, TEND and RDRF; STOP outside synchronous mode; NACKF and AL share NAKIE (192)
+-- a flag of ICSR and its enable in ICIER: TDRE, TEND and RDRF; STOP outside synchronous mode; NACKF and AL share NAKIE (192)
 abbrev pub interruptBy : Iic → ℕ → Bool
 interruptBy s enable =
     has (bitAnd (s .registers .status) enable) (TDRE + TEND + RDRF)

@@ -21,7 +21,7 @@ use mathlib.Core.Bool.{Bool, _&&_, _||_, cond, false, true}
 unfoldable pub releaseSdaOf : Iic → Iic
 releaseSdaOf s = cond (s .flags .reset) s (driveSda true s)
 
--- STOP is raised for a selected slave, and for a master that completed a frame (516)
+-- ICSR's STOP is raised for a selected slave, and for a master that completed a frame (516)
 abbrev pub stopNoted : Iic → Iic
 stopNoted s = raise (flag (s .flags .selected || master s && s .flags .completed) STOP) s
 

@@ -34,7 +34,7 @@ abbrev pub longer : MaybeHalf → Iic → Stepped
 longer NoHalf s = fine s
 longer (Half w) s = clockFrom (madeHalf (w .paused) (fits (w .count + 4 * periodOf (s .registers .control)))) s
 
--- where WAIT asks for it (752)
+-- where ICMR's WAIT asks for it (752)
 unfoldable pub insertWaitOf : Iic → Stepped
 insertWaitOf s = cond (insertsWait s) (longer (s .«clock_wait») s) (fine s)
 

@@ -48,14 +48,14 @@ fallDataIn (InFrame f) s = cond (starved f) (holdTransmitOf s) (driveSda (dataLe
 unfoldable pub fallDataOf : Iic → Iic
 fallDataOf s = fallDataIn (s .frame) s
 
--- a receiver that is selected or master holds SCL while RDRF is set, unless ICDRR was read at the very time of the eighth
--- fall before (742)
+-- a receiver that is selected or master holds SCL while ICSR's RDRF is set, unless ICDRR was read at the very time of the
+-- eighth fall before (742)
 unfoldable pub holdReceiveOf : Frame → Iic → Iic
 holdReceiveOf f s =
     cond (not (f .transmit) && (s .flags .selected || master s) && has (s .registers .status) RDRF && not (s .flags .«stale_release»))
     (setHoldOf Receive s) s
 
--- a receiver that is selected or master shows ACKBT, any other releases SDA (749)
+-- a receiver that is selected or master shows ICIER's ACKBT, any other releases SDA (749)
 unfoldable pub acknowledgeOf : Frame → Iic → Iic
 acknowledgeOf f s =
     driveSda (f .transmit || not (s .flags .selected) && not (master s) || has (s .registers .enable) ACKBT) (setStaleRelease false s)

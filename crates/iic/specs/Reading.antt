@@ -57,12 +57,12 @@ abbrev pub fellNow : EighthFall → Time → Bool
 fellNow NoFall now = false
 fellNow (FellAt t) now = sameTime t now
 
--- RDRF is cleared, and a read at the very time of the eighth fall is noted (231)
+-- ICSR's RDRF is cleared, and a read at the very time of the eighth fall is noted (231)
 unfoldable pub takenOf : Time → Iic → Iic
 takenOf now s =
     clearFlags RDRF (setStaleRelease (s .flags .«stale_release» || fellNow (s .«eighth_fall») now) s)
 
--- a master's receive goes on, and RCVD says whether the byte under way is its last (237)
+-- a master's receive goes on, and ICCR1's RCVD says whether the byte under way is its last (237)
 unfoldable pub continuedOf : Iic → Iic
 continuedOf s =
     cond (master s && not (s .flags .«receive_stopped»))

@@ -28,7 +28,7 @@ commandReady s = commanded s && (not (framed s) || not (s .lines .filtered .scl)
 
 -- ## `kick`: a frame
 
--- a master, a selected slave or synchronous mode has something to send (812)
+-- a master, a selected slave or synchronous mode has something to send, and ICSR's NACKF is 0 (812)
 abbrev pub canTransmit : Iic → Bool
 canTransmit s = transmits s && (master s || s .flags .selected || synchronous s) && not (has (s .registers .status) NACKF)
 
@@ -52,7 +52,7 @@ nextFrameOf s = cond (frameDue s) (beginFrameOf false s) s
 abbrev pub clockDue : Iic → Bool
 clockDue s = master s && not (isHalf (s .«clock_wait»)) && not (held s) && not (s .flags .«synchronized_hold»)
 
--- SDA in the low half: the bit to send, or the acknowledge (844)
+-- SDA in the low half: the bit to send, or the acknowledge, by ICIER's ACKBT (844)
 abbrev pub levelAt : Phase → Frame → Iic → Bool
 levelAt Data f s = dataLevel f
 levelAt Ack f s = f .transmit || has (s .registers .enable) ACKBT
@@ -64,7 +64,7 @@ lowHalfOf level s = setDrive (levels false (cond (s .lines .filtered .scl) (s .l
 
 -- ## `release_hold`: SDA as the frame has it (780)
 
--- the acknowledge, or the bit to send (781)
+-- the acknowledge, by ICIER's ACKBT, or the bit to send (781)
 abbrev pub releasedLevel : Phase → Frame → Iic → Bool
 releasedLevel Data f s = dataLevel f
 releasedLevel Ack f s = has (s .registers .enable) ACKBT

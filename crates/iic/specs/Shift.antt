@@ -22,7 +22,7 @@ use lib.Bits.{bitAnd, bitOr}
 use lib.Dec.{eqb}
 use mathlib.Core.Bool.{Bool, _&&_, _||_, cond, false, not, true}
 
--- ## `load_transmit`: ICDRT goes into a frame that waits for it, and TDRE is raised (584)
+-- ## `load_transmit`: ICDRT goes into a frame that waits for it, and ICSR's TDRE is raised (584)
 
 abbrev pub canLoad : Iic → Frame → Bool
 canLoad s f = starved f && not (has (s .registers .status) TDRE)
@@ -36,7 +36,7 @@ loadTransmitOf s = loadIn (s .frame) s
 
 -- ## `begin_frame` (566)
 
--- a frame sends where TRS is set: a master's, a selected slave's unless it is an address, and any in synchronous mode (568)
+-- a frame sends where ICCR1's TRS is set: a master's, a selected slave's unless it is an address, and any in synchronous mode (568)
 abbrev pub frameSends : Bool → Iic → Bool
 frameSends address s = transmits s && (master s || s .flags .selected && not address || synchronous s)
 
@@ -55,7 +55,7 @@ fresh address s = record {
 unfoldable pub beginFrameOf : Bool → Iic → Iic
 beginFrameOf address s = loadTransmitOf (setFrame (InFrame (fresh address s)) s)
 
--- ## `arbitration_lost`: AL is raised, MST and TRS are cleared, and what the master was about is dropped (593)
+-- ## `arbitration_lost`: ICSR's AL is raised, ICCR1's MST and TRS are cleared, and what the master was about is dropped (593)
 
 unfoldable pub arbitrationLostOf : Iic → Iic
 arbitrationLostOf s =
@@ -69,7 +69,7 @@ setHoldOf h s = cond (synchronous s) s (setHold h (driveScl false (unclocked s))
 
 -- ## `complete_frame` (662)
 
--- outside synchronous mode the ninth level goes into ACKBR, and raises NACKF where ACKE is set and nobody acknowledges (666)
+-- outside synchronous mode the ninth level goes into ICIER's ACKBR, and raises ICSR's NACKF where ACKE is set and nobody acknowledges (666)
 abbrev pub acknowledgedEnable : Bool → Iic → ℕ
 acknowledgedEnable sda s = bitOr (without (s .registers .enable) ACKBR) (flag sda ACKBR)
 
@@ -79,7 +79,7 @@ acknowledgedOf sda s =
     (raise (flag (not (isAcknowledge sda) && has (acknowledgedEnable sda s) ACKE) NACKF)
     (setEnable (acknowledgedEnable sda s) s))
 
--- TEND where TDRE is set: nothing more to send (672)
+-- ICSR's TEND where TDRE is set: nothing more to send (672)
 unfoldable pub drainedOf : Iic → Iic
 drainedOf s = raise (flag (has (s .registers .status) TDRE) TEND) s
 
@@ -99,7 +99,7 @@ receivedOf b s = cond (synchronous s && has (s .registers .status) RDRF) (overru
 abbrev pub receives : Frame → Iic → Bool
 receives f s = (master s || s .flags .selected || synchronous s) && not (f .address && isRead (f .shift))
 
--- every completion sets the bit count to 0 (663)
+-- every completion sets ICMR's bit count, BC, to 0 (663)
 abbrev pub completedOf : Iic → Iic
 completedOf s = setCount 0 (setCompleted true s)
 
@@ -123,7 +123,7 @@ whenLostOf lost s = cond lost (arbitrationLostOf s) s
 abbrev pub hits : ℕ → Iic → Bool
 hits b s = eqb (bitAnd b SVA) (bitAnd (s .registers .address) SVA) || isGeneralCall b
 
--- AAS; ADZ for the byte 00; TRS with TDRE for a read, no TRS for a write (627)
+-- ICSR's AAS; ADZ for the byte 00; ICCR1's TRS with ICSR's TDRE for a read, no TRS for a write (627)
 unfoldable pub selectOf : ℕ → Iic → Iic
 selectOf b s =
     setControl (bitOr (without (s .registers .control) TRS) (flag (isRead b) TRS))
@@ -133,7 +133,7 @@ selectOf b s =
 unfoldable pub matchedOf : ℕ → Iic → Iic
 matchedOf b s = cond (hits b s) (selectOf b (setSelected true s)) (setSelected false s)
 
--- a non-master compares an address byte (624)
+-- document 01: a non-master compares an address byte (624)
 unfoldable pub addressedOf : Frame → Iic → Iic
 addressedOf f s = cond (f .address && not (master s)) (matchedOf (f .shift) s) s
 
@@ -158,7 +158,7 @@ lastBitOf f sda s = endBits f sda (addressedOf f s)
 abbrev pub bitTaken : Frame → Bool → Iic → Iic
 bitTaken f sda s = cond (eqb (f .remaining) 0) (lastBitOf f sda s) (setFrame (InFrame f) s)
 
--- a bit is sampled, after a look at who drives SDA (616)
+-- document 01: a bit is sampled, high bit first; before it a look at who drives SDA (616)
 unfoldable pub risingDataOf : Frame → Bool → Iic → Iic
 risingDataOf f sda s = bitTaken (sampled (loses f sda s) sda f) sda (whenLostOf (loses f sda s) s)
 

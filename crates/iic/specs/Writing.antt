@@ -25,12 +25,12 @@ use mathlib.Core.Bool.{Bool, _&&_, cond, false, not, true}
 
 -- ## `write`: ICCR1
 
--- MST or TRS changed (270)
+-- ICCR1's MST or TRS changed (270)
 unfoldable pub redirected : ℕ → Iic → Iic
 redirected value s =
     setReceiveEnabled (synchronous s && not (transmits s)) (setReceiveStopped false (setFrame (redirectIn (s .frame) (transmits s) (master s) (has value RCVD) (s .lines .filtered .scl)) s))
 
--- TDRE is raised where TRS goes from 0 to 1 (265)
+-- ICSR's TDRE is raised where ICCR1's TRS goes from 0 to 1 (265)
 unfoldable pub controlSet : ℕ → Iic → Iic
 controlSet value s = raise (flag (not (transmits s) && has value TRS) TDRE) (setControl value s)
 
@@ -39,7 +39,7 @@ unfoldable pub takeControlOf : ℕ → Iic → Iic
 takeControlOf value s =
     cond (eqb (bitAnd (s .registers .control) (MST + TRS)) (bitAnd value (MST + TRS))) (controlSet value s) (redirected value (controlSet value s))
 
--- a synchronous receiver with RCVD and no frame receives nothing (287)
+-- a synchronous receiver with ICCR1's RCVD and no frame receives nothing (287)
 abbrev pub stopsReceive : Iic → Bool
 stopsReceive s = synchronous s && not (transmits s) && has (s .registers .control) RCVD && not (framed s)
 
@@ -47,7 +47,7 @@ stopsReceive s = synchronous s && not (transmits s) && has (s .registers .contro
 unfoldable pub stopReceiveOf : Iic → Iic
 stopReceiveOf s = setReceiveEnabled (s .flags .«receive_enabled» && not (stopsReceive s)) s
 
--- ICE says what follows (282)
+-- ICCR1's ICE says what follows (282)
 abbrev pub controlTaken : Time → Domain → Iic → Stepped
 controlTaken now system s =
     cond (enabled s)
@@ -60,19 +60,19 @@ writeControlOf value now system s = controlTaken now system (takeControlOf value
 
 -- ## `write`: ICCR2
 
--- IICRST is written 1, whether it was 1 before or not (300)
+-- ICCR2's IICRST is written 1, whether it was 1 before or not; a transmitter's TDRE is raised (300)
 unfoldable pub enterResetOf : Iic → Iic
 enterResetOf s = raise (flag (transmits s) TDRE) (stopShifterOf (setReset true s))
 
--- SDA as SDAO asks, where SDAOP is 0 (307)
+-- SDA as ICCR2's SDAO asks, where its SDAOP is 0 (307)
 unfoldable pub pullSdaOf : ℕ → Iic → Iic
 pullSdaOf value s = cond (has value SDAOP) s (driveSda (has value SDAO) s)
 
--- BBSY with SCP 0 asks a master for a start (1) or a stop (0), outside synchronous mode (310)
+-- ICCR2's BBSY with SCP 0 asks a master for a start (1) or a stop (0), outside synchronous mode (310)
 abbrev pub givesCommand : ℕ → Iic → Bool
 givesCommand value s = not (has value SCP) && master s && not (synchronous s) && enabled s
 
--- the manual's correction A023: with ACKE a stop before the ninth falling edge is lost (313)
+-- the manual's correction A023: with ICIER's ACKE a stop before the ninth falling edge is lost (313)
 abbrev pub earlyStop : ℕ → Iic → Bool
 earlyStop value s =
     not (has value BBSY) && has (s .registers .enable) ACKE && transmits s && s .lines .filtered .scl && isDoneIn (s .frame)
@@ -90,7 +90,7 @@ commandFrom value now system s =
 unfoldable pub outOfResetOf : ℕ → Time → Domain → Iic → Stepped
 outOfResetOf value now system s = commandFrom value now system (pullSdaOf value s)
 
--- a write that lifts the reset does nothing else (297)
+-- document 01: no frame is started by the write that lifts the reset; it does nothing else (297)
 unfoldable pub writeCommandOf : ℕ → Time → Domain → Iic → Stepped
 writeCommandOf value now system s =
     cond (has value IICRST) (fine (enterResetOf s))
@@ -98,7 +98,7 @@ writeCommandOf value now system s =
 
 -- ## `write`: the others
 
--- ICMR: the bit count is written where BCWP is 0 (326)
+-- ICMR: BC, the bit count, is written where BCWP is 0 (326)
 unfoldable pub writeModeOf : ℕ → Iic → Iic
 writeModeOf value s =
     cond (has value BCWP) (setMode (bitAnd value (MLS + WAIT)) s)

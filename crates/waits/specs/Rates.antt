@@ -11,30 +11,30 @@ use Rattle.bus.specs.Bits.{has}
 abbrev pub CKS3 : ℕ
 CKS3 = 8
 
--- a half clock: half counts by CKS2 to CKS0 (181)
+-- document 01: a half clock, in half counts by ICCR1's CKS2 to CKS0 (181)
 abbrev pub halfClocks : List ℕ
 halfClocks = 28 ∷ 40 ∷ 48 ∷ 64 ∷ 80 ∷ 100 ∷ 112 ∷ 128 ∷ []
 
--- the monitor wait: half counts by CKS3 and CKS2 (881)
+-- document 01: the monitor wait, in half counts by ICCR1's CKS3 and CKS2 (881)
 abbrev pub monitorWaits : List ℕ
 monitorWaits = 15 ∷ 39 ∷ 35 ∷ 83 ∷ []
 
--- a slave's setup wait: clocks by CKS3 (777)
+-- document 01: a slave's setup wait, in clocks by ICCR1's CKS3 (777)
 abbrev pub setupWaits : List ℕ
 setupWaits = 10 ∷ 20 ∷ []
 
--- by CKS2 to CKS0 (181)
+-- by ICCR1's CKS2 to CKS0 (181)
 unfoldable pub rate : ℕ → ℕ
 rate control = getD halfClocks (bitAnd control 7) 0
 
--- a half clock is doubled by CKS3 (182)
+-- document 01: a half clock is doubled by ICCR1's CKS3 (182)
 unfoldable pub periodOf : ℕ → ℕ
 periodOf control = cond (has control CKS3) (2 * rate control) (rate control)
 
--- by CKS3 and CKS2 (881)
+-- by ICCR1's CKS3 and CKS2 (881)
 unfoldable pub monitorHalves : ℕ → ℕ
 monitorHalves control = getD monitorWaits (bitAnd (control / 4) 3) 0
 
--- by CKS3 (777)
+-- by ICCR1's CKS3 (777)
 unfoldable pub setupCycles : ℕ → ℕ
 setupCycles control = getD setupWaits (bitAnd (control / 8) 1) 0

@@ -1,5 +1,6 @@
 //! docs/DIFFERENCES.md, row by row: how the plain build of the Rust, the checked one and the port end just the call that the
 //! page names, and that the tables allow it by the row of the test's name.
+mod decided;
 mod peripheral;
 use super::{functions, peripheral as machines};
 use crate::inputs::{counted, plain_set, FREQUENCIES as DEFAULT};

@@ -44,7 +44,7 @@ fn check(row: &'static str, call: Call, state: &State, set: &Set, args: &Args, e
 }
 
 /// The state after calls from the default, all of which end alike in both builds and the port.
-fn alike(play: impl FnOnce(&mut Stage) -> Option<()>) -> State {
+pub fn alike(play: impl FnOnce(&mut Stage) -> Option<()>) -> State {
     let (set, mut tally) = (plain_set(0, DEFAULT), Tally::default());
     let mut trial = Trial::fresh(set, &mut tally).unwrap();
     play(&mut Stage::new(&mut trial, system(&set), 0)).expect("a difference");
@@ -69,35 +69,6 @@ fn start_byte() {
     assert_eq!(places.map(|place| after_start_byte(0x00)[place]), [0x82, 0x90, 1, 1, 0]);
     // With any other own address nobody pulls SDA.
     assert_eq!(places.map(|place| after_start_byte(0xa0)[place]), [0x00, 0x80, 0, 1, 1]);
-}
-
-/// Seconds and fraction, call and operands; then the end and the levels, as in the page.
-#[test]
-fn refused_idle_visit() {
-    const SECONDS: u64 = 2_501_999_792_983;
-    let calls = [
-        (0x9bdf_c71c_71c7_1c6f, Call::SetGate, [1, 0], "g\t1", "0\t-\t-"),
-        (0x9bdf_c71c_71c7_1c70, Call::Write, [5, 0x01], "w\t5\t01", "0\t-\t-"),
-        (0x9bdf_c71c_71c7_1c71, Call::Write, [0, 0xa0], "w\t0\ta0", "0\t-\t01"),
-        (0x9be0_06d3_a06d_3a06, Call::Advance, [0, 0], "v", "7\t-\t11"),
-        (0x9be0_06d3_a06d_3a07, Call::Advance, [0, 0], "v", "7\t-\t01"),
-    ];
-    let (mut trace, mut answers) = (String::new(), String::new());
-    alike(|host| {
-        for (place, (fraction, call, operands, line, answer)) in calls.into_iter().enumerate() {
-            host.now = layout::joined(SECONDS, fraction);
-            if place == 4 {
-                // Idle: no wait is due, since none is left; and there is a frame already.
-                let waits = [iic::FILTER_WAIT, iic::SETUP_WAIT, iic::MONITOR_WAIT, iic::CLOCK_WAIT, iic::FRAME];
-                assert_eq!(waits.map(|place| host.state()[place]), [0, 0, 0, 0, 1]);
-            }
-            host.call(call, operands)?;
-            trace += &format!("{SECONDS}\t{fraction:016x}\t{line}\n");
-            answers += &format!("{}\t{answer}\t00\n", place + 1);
-        }
-        Some(())
-    });
-    assert_eq!(String::from_utf8(plain_player::play(trace.as_bytes(), 1000).bytes).unwrap(), answers);
 }
 
 /// A clock that starts at 0:0000000000000001, at time 0: a start command begins a half wait.
