@@ -172,17 +172,17 @@ fn rows_where_the_rust_decides_have_tests() {
 }
 
 /// The definitions of a file of definitions, with the comment that stands right above each.
-fn definitions(text: &str) -> Vec<(&str, String)> {
+fn definitions(text: &str) -> Vec<(String, String)> {
     let mut found = Vec::new();
     let mut comment = String::new();
     for line in text.lines().skip(1) {
-        if let Some(more) = line.strip_prefix("-- ") {
+        if let Some(more) = line.strip_prefix("--") {
             comment += more;
             continue;
         }
         let signature = ["abbrev pub ", "unfoldable pub "].iter().find_map(|word| line.strip_prefix(word));
         if let Some((name, _)) = signature.and_then(|rest| rest.split_once(" :")) {
-            found.push((name, comment.clone()));
+            found.push((name.to_string(), comment.clone()));
         }
         comment.clear();
     }
@@ -194,26 +194,37 @@ fn cites_lines(comment: &str) -> bool {
     comment.match_indices('(').any(|(place, _)| comment[place + 1..].starts_with(|c: char| c.is_ascii_digit()))
 }
 
+/// The crates whose definitions the section on what the Rust alone decides is about.
+const CRATES: [&str; 4] = ["clocks", "waits", "frames", "iic"];
+
+/// The definitions of those crates.
+fn all_definitions() -> Vec<(String, String)> {
+    let folders = CRATES.map(|name| format!("{}/../../crates/{name}/specs", env!("CARGO_MANIFEST_DIR")));
+    let files = folders.iter().flat_map(|folder| fs::read_dir(folder).unwrap());
+    let texts = files.map(|file| fs::read_to_string(file.unwrap().path()).unwrap());
+    texts.filter(|text| text.starts_with("-- Definitions")).flat_map(|text| definitions(&text)).collect()
+}
+
 /// A definition that has no source but lines of iic.rs, neither document 01 nor a register of the manual, is on the page.
 #[test]
 fn definitions_by_the_rust_alone_are_on_the_page() {
     const SOURCES: [&str; 9] = ["document 01", "ICCR1", "ICCR2", "ICMR", "ICIER", "ICSR", "SAR", "ICDRT", "ICDRR"];
-    let alone = section("What the Rust alone decides");
-    let mut looked_at = 0;
-    for name in ["clocks", "waits", "frames", "iic"] {
-        let folder = format!("{}/../../crates/{name}/specs", env!("CARGO_MANIFEST_DIR"));
-        for file in fs::read_dir(&folder).unwrap() {
-            let text = fs::read_to_string(file.unwrap().path()).unwrap();
-            if !text.starts_with("-- Definitions") {
-                continue;
-            }
-            for (name, comment) in definitions(&text) {
-                if cites_lines(&comment) && !SOURCES.iter().any(|source| comment.contains(source)) {
-                    looked_at += 1;
-                    assert!(alone.contains(&format!("`{name}`")), "{name}: {comment}");
-                }
-            }
+    let alone = |comment: &str| cites_lines(comment) && !SOURCES.iter().any(|source| comment.contains(source));
+    let named: Vec<_> = all_definitions().into_iter().filter(|(_, comment)| alone(comment)).collect();
+    assert!(named.len() > 50, "{}", named.len());
+    for (name, comment) in named {
+        assert!(section("What the Rust alone decides").contains(&format!("`{name}`")), "{name}: {comment}");
+    }
+}
+
+/// What the rows there have in their last cell are definitions, and crates.
+#[test]
+fn definitions_on_the_page_exist() {
+    let known: Vec<String> = all_definitions().into_iter().map(|(name, _)| name).collect();
+    for row in section("What the Rust alone decides").lines().filter(|line| line.starts_with("| ")) {
+        let cell = row.rsplit(" | ").next().unwrap();
+        for name in cell.split('`').skip(1).step_by(2) {
+            assert!(known.iter().any(|other| other == name) || CRATES.contains(&name), "{name}");
         }
     }
-    assert!(looked_at > 50, "{looked_at}");
 }
