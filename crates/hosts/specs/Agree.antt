@@ -32,7 +32,8 @@ use Rattle.iic.specs.Kick.{kickOf}
 use Rattle.iic.specs.Setters.{setClockWait, setMonitorWait, setSetupWait}
 use Rattle.iic.specs.State.{defaultIic, awake, driveScl}
 use Rattle.waits.specs.Ends.{waitEnd, halfEnd, dueOf}
-use Rattle.hosts.specs.Calls.{Call, peek, read, write, inputPins, setGate, deadline, advance, pins, interrupt, interruptWithEnable, validate, Made, callOf, isRefusal, outcomeOf, Host, start, after, afterAll, hostWith, isNow, waitsDue, anyDue, idleRead, idle}
+use Rattle.hosts.specs.Calls.{Call, peek, read, write, inputPins, setGate, deadline, advance, pins, interrupt, interruptWithEnable, validate, Made, callOf, outcomeOf, Host, start, after, afterAll, hostWith, isNow, waitsDue, anyDue, idleRead, idle}
+use Rattle.iic.specs.Told.{isRefusal}
 use Rattle.hosts.specs.Demand3.{Left, played, left, leftOf, calls, IsKth, before, anyRefused, TwoHostsAgree}
 use Rattle.hosts.specs.Invariant.{Good}
 use Rattle.iic.specs.Settled.{settled}

@@ -1,28 +1,17 @@
 -- Definitions: the eleven calls as a host makes them, what they answer and leave, and which of them are idle (document 01, "*Idle* calls").
 use Prim.Native.Nat.{ℕ}
-use mathlib.Core.Bool.{Bool, true, false, not, _&&_, _||_, cond, Bool·beq}
+use mathlib.Core.Bool.{Bool, true, false, not, _&&_, _||_, Bool·beq}
 use mathlib.Core.List.{List, [], _∷_}
-use lib.Dec.{eqb}
-use Rattle.bus.specs.declared.Levels.{Levels}
 use Rattle.bus.specs.Bus.{sameLevels, levels}
 use Rattle.time.specs.declared.Time.{Time}
 use Rattle.clocks.specs.declared.Clocks.{Clocks}
 use Rattle.clocks.specs.Clocks.{hasZero}
-use Rattle.clocks.specs.declared.Truth.{Truth}
-use Rattle.clocks.specs.declared.Truth.the-variants.{Is as Told, Refused as Untold}
-use Rattle.clocks.specs.declared.wait.Deadline.{Deadline}
-use Rattle.clocks.specs.declared.wait.Deadline.the-variants.{Never, At, Refused as Undated}
 use Rattle.iic.specs.declared.Iic.{Iic}
-use Rattle.iic.specs.declared.Ended.{Ended}
-use Rattle.iic.specs.declared.Ended.the-variants.{Finished, Refused}
-use Rattle.iic.specs.declared.Byte.{Byte}
-use Rattle.iic.specs.declared.Byte.the-variants.{Is, Refused as Unread}
-use Rattle.iic.specs.declared.Pins.{Pins}
-use Rattle.iic.specs.declared.Pins.the-variants.{NoPins, Driven}
 use Rattle.waits.specs.declared.Due.{Due}
 use Rattle.waits.specs.declared.Due.the-variants.{Now, NotNow, Refused as Unknown}
 use Rattle.iic.specs.declared.Register.{Register}
 use Rattle.iic.specs.declared.Register.the-variants.{ICCR1, ICCR2, ICMR, ICIER, ICSR, SAR, ICDRT, ICDRR}
+use Rattle.iic.specs.Told.{Answer, byte, bit, ofEnd, ofByte, ofTruth, ofDeadline, ofPins, ofNumber}
 use Rattle.iic.specs.Reading.{registerAt}
 use Rattle.iic.specs.Calls.{peekOf, readOf, writeOf, inputPinsOf, setGateOf, deadlineOf, advanceOf, pinsOf, interruptWithEnableOf, validateOf}
 use Rattle.iic.specs.State.{defaultIic, framed}
@@ -55,54 +44,6 @@ abbrev pub callOf : Made → Call
 callOf (byValue x) = x
 callOf (lentRead a now) = read a now
 callOf (lentWrite a value now) = write a value now
-
--- ## Answers (document 01, its last sentence: a number and values for each case of an answer)
-
--- a value of the call's kind, or a refusal by document 01's number
-pub data Answer : Type 0 where
-  refusal : ℕ → Answer
-  nothing : Answer
-  byte : ℕ → Answer
-  bit : Bool → Answer
-  noLevels : Answer
-  theLevels : Levels → Answer
-  noMoment : Answer
-  moment : Time → Answer
-
-abbrev pub ofEnd : Ended → Answer
-ofEnd Finished = nothing
-ofEnd (Refused n) = refusal n
-
-abbrev pub ofByte : Byte → Answer
-ofByte (Is v) = byte v
-ofByte (Unread n) = refusal n
-
-abbrev pub ofTruth : Truth → Answer
-ofTruth (Told b) = bit b
-ofTruth (Untold n) = refusal n
-
-abbrev pub ofDeadline : Deadline → Answer
-ofDeadline Never = noMoment
-ofDeadline (At t) = moment t
-ofDeadline (Undated n) = refusal n
-
-abbrev pub ofPins : Pins → Answer
-ofPins NoPins = noLevels
-ofPins (Driven l) = theLevels l
-
--- `validate` answers the number itself, 0 for none
-abbrev pub ofNumber : ℕ → Answer
-ofNumber n = cond (eqb n 0) nothing (refusal n)
-
-abbrev pub isRefusal : Answer → Bool
-isRefusal (refusal n) = true
-isRefusal nothing = false
-isRefusal (byte n) = false
-isRefusal (bit b) = false
-isRefusal noLevels = false
-isRefusal (theLevels l) = false
-isRefusal noMoment = false
-isRefusal (moment t) = false
 
 -- ## What a call does
 

@@ -55,7 +55,8 @@ use Rattle.bus.specs.Bus.{levels}
 use Rattle.iic.specs.State.{defaultIic}
 use Rattle.iic.specs.Waiting.{clockFrom, filterFrom}
 use Rattle.hosts.specs.Calls as Hosts
-use Rattle.hosts.specs.Calls.{Call, write, inputPins, setGate, advance, Made, byValue, refusal, nothing, bit, ofEnd, ofTruth, Outcome, outcome, outcomeOf, Host, start, hostWith, afterAll, idle}
+use Rattle.hosts.specs.Calls.{Call, write, inputPins, setGate, advance, Made, byValue, Outcome, outcome, outcomeOf, Host, start, hostWith, afterAll, idle}
+use Rattle.iic.specs.Told.{refusal, nothing, bit, ofEnd, ofTruth}
 use Rattle.hosts.specs.Demand3 as Demand3
 use Rattle.hosts.specs.Demand3.{Left, left, leftOf, calls}
 use Rattle.hosts.specs.Rows.{at, clockSet, made}

@@ -6,7 +6,8 @@ use mathlib.Core.Path.{_≡_}
 use lib.ListN.{take}
 use Rattle.clocks.specs.declared.Clocks.{Clocks}
 use Rattle.iic.specs.declared.Iic.{Iic}
-use Rattle.hosts.specs.Calls.{Call, Made, callOf, Answer, isRefusal, outcomeOf, Host, start, after, idle}
+use Rattle.hosts.specs.Calls.{Call, Made, callOf, outcomeOf, Host, start, after, idle}
+use Rattle.iic.specs.Told.{Answer, isRefusal}
 
 -- ## The calls left
 

@@ -42,7 +42,8 @@ use Rattle.iic.specs.Setters.{setFrame, setSeen, setRaw, setGate, setReset, set
 use Rattle.iic.specs.State.{stopShifterOf, enabled, awake, transmits, conditioned}
 use Rattle.iic.specs.Waiting.{wantsFilter, scheduleFilterOf, filterFrom, halfFrom, turnClockOf, turnFilterOf, turnHalfIn, turnMonitorOf, turnSetupOf, turnWaitIn, waitFrom}
 use Rattle.waits.specs.Ends.{turnHalf, turnWait, waitEnd}
-use Rattle.hosts.specs.Calls.{Call, peek, read, write, inputPins, deadline, advance, pins, interrupt, interruptWithEnable, validate, ofEnd, ofByte, ofTruth, isRefusal, outcomeOf, Host, lifts, after}
+use Rattle.hosts.specs.Calls.{Call, peek, read, write, inputPins, deadline, advance, pins, interrupt, interruptWithEnable, validate, outcomeOf, Host, lifts, after}
+use Rattle.iic.specs.Told.{ofEnd, ofByte, ofTruth, isRefusal}
 use Rattle.hosts.specs.Invariant.{Good}
 use Rattle.iic.specs.Settled.{settled}
 use Rattle.hosts.specs.Kicked.{leavesAt, Leaves, Settled, Settles, then-leaves, leaves-more, half-leaves, unready, kick-settles, then-kick}

@@ -37,7 +37,8 @@ use Rattle.bus.specs.Bus.{levels}
 use Rattle.iic.specs.State.{defaultIic}
 use Rattle.iic.specs.Waiting.{filterFrom}
 use Rattle.hosts.specs.Calls as Hosts
-use Rattle.hosts.specs.Calls.{Call, read, write, inputPins, setGate, advance, Made, Answer, refusal, nothing, byte, bit, outcome, outcomeOf, start, afterAll}
+use Rattle.hosts.specs.Calls.{Call, read, write, inputPins, setGate, advance, Made, outcome, outcomeOf, start, afterAll}
+use Rattle.iic.specs.Told.{Answer, refusal, nothing, byte, bit}
 use Rattle.hosts.specs.Demand3 as Demand3
 use Rattle.hosts.specs.Demand3.{Left, leftOf, calls, IsKth}
 use Rattle.hosts.specs.Rows.{at, made}

@@ -29,7 +29,8 @@ use Rattle.iic.specs.Ready as Ready
 use Rattle.iic.specs.Shift as Shift
 use Rattle.waits.specs.Ends as Ends
 use Rattle.hosts.specs.Calls as Hosts
-use Rattle.hosts.specs.Calls.{Call, peek, read, write, inputPins, setGate, deadline, advance, pins, interrupt, interruptWithEnable, validate, Made, byValue, lentRead, lentWrite, Answer, nothing, byte}
+use Rattle.hosts.specs.Calls.{Call, peek, read, write, inputPins, setGate, deadline, advance, pins, interrupt, interruptWithEnable, validate, Made, byValue, lentRead, lentWrite}
+use Rattle.iic.specs.Told.{Answer, nothing, byte}
 use Rattle.hosts.specs.Demand3 as Demand3
 use Rattle.hosts.specs.Demand3.{Left, leftOf, calls}
 

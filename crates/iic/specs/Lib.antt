@@ -20,6 +20,7 @@ pub mod Writing
 pub mod AnswerLaws
 pub mod EdgeLaws
 pub mod SetupLaws
+pub mod Told
 pub mod Calls
 pub mod Over
 pub mod OverLaws

@@ -5,15 +5,8 @@ use Prim.Native.Nat.{ℕ}
 use Rattle.time.specs.declared.Time.{Time}
 use Rattle.time.specs.Time.{earlier}
 use Rattle.clocks.specs.declared.Clocks.{Clocks}
-use Rattle.clocks.specs.declared.Truth.{Truth}
-use Rattle.clocks.specs.declared.Truth.the-variants as truth
-use Rattle.clocks.specs.declared.wait.Deadline.{Deadline}
-use Rattle.clocks.specs.declared.wait.Deadline.the-variants as deadline
 use Rattle.iic.specs.declared.Iic.{Iic}
-use Rattle.iic.specs.declared.Ended.{Ended}
-use Rattle.iic.specs.declared.Ended.the-variants.{Finished, Refused}
-use Rattle.iic.specs.declared.Byte.{Byte}
-use Rattle.iic.specs.declared.Byte.the-variants as byte
+use Rattle.iic.specs.Told.{Answer as Told, refusal, nothing, byte, bit, noLevels, theLevels, noMoment, moment, numberOf, ofEnd, ofByte, ofTruth, ofDeadline}
 use Rattle.iic.specs.Calls.{readOf, writeOf, inputPinsOf, setGateOf, advanceOf, deadlineOf}
 use Rattle.player.specs.declared.Verb.{Verb}
 use Rattle.player.specs.declared.Verb.the-variants.{Read, Write, Pins, Gate, Visit, Deadline as AskDeadline}
@@ -31,40 +24,27 @@ use Rattle.player.specs.Reading.{callOf}
 
 -- ## The call on a state: its refusal or 0, its value and the next state
 
-abbrev pub done : Value → Iic → Outcome
-done v s = record { refusal = 0; value = v; state = s }
+-- the value in the answer line: a byte for r, 0 or 1 for p, a time for d, none where there is none
+abbrev pub valueIn : Told → Value
+valueIn (byte b) = value.Byte b
+valueIn (bit b) = value.Bit b
+valueIn (moment t) = value.Moment t
+valueIn (refusal n) = value.NoValue
+valueIn nothing = value.NoValue
+valueIn noLevels = value.NoValue
+valueIn (theLevels l) = value.NoValue
+valueIn noMoment = value.NoValue
 
-abbrev pub failed : ℕ → Iic → Outcome
-failed n s = record { refusal = n; value = value.NoValue; state = s }
-
--- a byte for r
-abbrev pub ofRead : Byte → Iic → Outcome
-ofRead (byte.Is b) s = done (value.Byte b) s
-ofRead (byte.Refused n) s = failed n s
-
--- none for w, g and v
-abbrev pub ofStep : Ended → Iic → Outcome
-ofStep Finished s = done value.NoValue s
-ofStep (Refused n) s = failed n s
-
--- 0 or 1 for p
-abbrev pub ofPins : Truth → Iic → Outcome
-ofPins (truth.Is b) s = done (value.Bit b) s
-ofPins (truth.Refused n) s = failed n s
-
--- a time for d, none for no deadline
-abbrev pub ofDeadline : Deadline → Iic → Outcome
-ofDeadline deadline.Never s = done value.NoValue s
-ofDeadline (deadline.At t) s = done (value.Moment t) s
-ofDeadline (deadline.Refused n) s = failed n s
+abbrev pub told : Told → Iic → Outcome
+told a s = record { refusal = numberOf a; value = valueIn a; state = s }
 
 unfoldable pub outcomeOf : Clocks → Time → Iic → Verb → Outcome
-outcomeOf k t s (Read a) = ofRead (readOf s a t k .answer) (readOf s a t k .state)
-outcomeOf k t s (Write a b) = ofStep (writeOf s a b t k .ended) (writeOf s a b t k .state)
-outcomeOf k t s (Pins scl sda) = ofPins (inputPinsOf s scl sda t k .answer) (inputPinsOf s scl sda t k .state)
-outcomeOf k t s (Gate g) = ofStep (setGateOf s g t k .ended) (setGateOf s g t k .state)
-outcomeOf k t s Visit = ofStep (advanceOf s t k .ended) (advanceOf s t k .state)
-outcomeOf k t s AskDeadline = ofDeadline (deadlineOf s k) s
+outcomeOf k t s (Read a) = told (ofByte (readOf s a t k .answer)) (readOf s a t k .state)
+outcomeOf k t s (Write a b) = told (ofEnd (writeOf s a b t k .ended)) (writeOf s a b t k .state)
+outcomeOf k t s (Pins scl sda) = told (ofTruth (inputPinsOf s scl sda t k .answer)) (inputPinsOf s scl sda t k .state)
+outcomeOf k t s (Gate g) = told (ofEnd (setGateOf s g t k .ended)) (setGateOf s g t k .state)
+outcomeOf k t s Visit = told (ofEnd (advanceOf s t k .ended)) (advanceOf s t k .state)
+outcomeOf k t s AskDeadline = told (ofDeadline (deadlineOf s k)) s
 
 -- ## The line
 

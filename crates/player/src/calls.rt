@@ -1,8 +1,9 @@
 // A line's call on the peripheral.
 ghost use mathlib.Core.Path.{_≡_};
 ghost use Rattle.iic.specs.Calls.{advanceOf, deadlineOf};
+ghost use Rattle.iic.specs.Told.{ofByte, ofDeadline, ofEnd, ofTruth};
 ghost use Rattle.player.specs.Trace.{traceClocks};
-ghost use Rattle.player.specs.Calls.{laterThan, ofRead, ofStep, ofPins, ofDeadline, outcomeOf, refusedBy, takenAt, calledOf, answerOf};
+ghost use Rattle.player.specs.Calls.{laterThan, told, outcomeOf, refusedBy, takenAt, calledOf, answerOf};
 use super::Answer;
 use super::Call;
 use super::Host;
@@ -25,7 +26,7 @@ use iic::Stepped;
 use time::Time;
 
 fn of_read(done: ReadOut) -> Outcome
-    ensures { λ r. ⌜ r ≡ ofRead (done .answer) (done .state) ⌝ }
+    ensures { λ r. ⌜ r ≡ told (ofByte (done .answer)) (done .state) ⌝ }
 {
     let answer = done.answer;
     let state = done.state;
@@ -44,7 +45,7 @@ fn of_read(done: ReadOut) -> Outcome
 }
 
 fn of_step(done: Stepped) -> Outcome
-    ensures { λ r. ⌜ r ≡ ofStep (done .ended) (done .state) ⌝ }
+    ensures { λ r. ⌜ r ≡ told (ofEnd (done .ended)) (done .state) ⌝ }
 {
     let ended = done.ended;
     let state = done.state;
@@ -63,7 +64,7 @@ fn of_step(done: Stepped) -> Outcome
 }
 
 fn of_pins(done: Noticed) -> Outcome
-    ensures { λ r. ⌜ r ≡ ofPins (done .answer) (done .state) ⌝ }
+    ensures { λ r. ⌜ r ≡ told (ofTruth (done .answer)) (done .state) ⌝ }
 {
     let answer = done.answer;
     let state = done.state;
@@ -82,7 +83,7 @@ fn of_pins(done: Noticed) -> Outcome
 }
 
 fn of_deadline(deadline: Deadline, state: Iic) -> Outcome
-    ensures { λ r. ⌜ r ≡ ofDeadline deadline state ⌝ }
+    ensures { λ r. ⌜ r ≡ told (ofDeadline deadline) state ⌝ }
 {
     match deadline {
         Deadline::Never => Outcome {
