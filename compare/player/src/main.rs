@@ -1,5 +1,7 @@
-//! Plays the trace of standard input and prints its answer lines.
+//! Plays the trace of standard input and prints its answer lines. Arguments are numbers of lines: an overflow there is
+//! that of a half count, 13, which the Rust doesn't tell from 7.
 use plain_player::{Player, MOST_LINES};
+use std::env;
 use std::io::{self, BufRead, Write};
 use std::process::ExitCode;
 
@@ -14,9 +16,11 @@ fn main() -> ExitCode {
 }
 
 fn play() -> io::Result<()> {
+    let numbers =
+        env::args().skip(1).map(|number| number.parse().map_err(|e| io::Error::other(format!("{number}: {e}"))));
+    let mut player = Player::told(numbers.collect::<io::Result<_>>()?);
     let mut input = io::stdin().lock();
     let mut output = io::BufWriter::new(io::stdout().lock());
-    let mut player = Player::default();
     let (mut line, mut answer) = (Vec::new(), Vec::new());
     for _ in 0..MOST_LINES {
         line.clear();

@@ -3,6 +3,7 @@ use crate::line::{self, Call};
 use reference::mcu::clocks::{Clocks, Frequencies};
 use reference::mcu::iic::Iic;
 use reference::{Error, Time};
+use std::collections::BTreeSet;
 use std::fmt;
 use std::io::Write;
 
@@ -10,6 +11,9 @@ use std::io::Write;
 const MALFORMED: u8 = 4;
 /// Refusal 5.
 const NOT_LATER: u8 = 5;
+/// Refusals 7 and 13, for which the Rust has one error.
+const OVERFLOW: u8 = 7;
+const HALF_COUNT: u8 = 13;
 /// The address of ICSR.
 const STATUS: u16 = 4;
 
@@ -18,6 +22,8 @@ pub struct Player {
     clocks: Clocks,
     last: Option<Time>,
     lines: usize,
+    /// Lines whose overflow, if they draw one, is that of a half count.
+    half_counts: BTreeSet<usize>,
 }
 
 /// The third field of an answer line.
@@ -34,11 +40,16 @@ struct Levels(Option<[bool; 2]>);
 impl Default for Player {
     fn default() -> Self {
         let clocks = Clocks::new(Time::ZERO, Frequencies::default()).expect("default frequencies are no zeros");
-        Self { iic: Iic::default(), clocks, last: None, lines: 0 }
+        Self { iic: Iic::default(), clocks, last: None, lines: 0, half_counts: BTreeSet::new() }
     }
 }
 
 impl Player {
+    /// One that is told which lines' overflows are those of a half count.
+    pub fn told(half_counts: BTreeSet<usize>) -> Self {
+        Self { half_counts, ..Self::default() }
+    }
+
     /// The state after the lines played.
     pub fn iic(&self) -> &Iic {
         &self.iic
@@ -60,6 +71,7 @@ impl Player {
         self.lines += 1;
         let (refusal, value) = match self.answer(line.strip_suffix(b"\n").unwrap_or(line)) {
             Ok(value) => (0, value),
+            Err(OVERFLOW) if self.half_counts.contains(&self.lines) => (HALF_COUNT, Value::None),
             Err(number) => (number, Value::None),
         };
         let (number, levels, status) = (self.lines, Levels(self.iic.pins()), self.iic.peek(STATUS));

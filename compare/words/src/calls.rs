@@ -23,6 +23,16 @@ pub enum End {
     Trapped(Trap),
 }
 
+impl End {
+    /// As the Rust has it, whose `Overflow` is both 7 and 13.
+    pub fn as_rust(self) -> Self {
+        if self == End::Refused(13) {
+            return End::Refused(7);
+        }
+        self
+    }
+}
+
 /// How a call ended, and the words that it answered, from place 1 on.
 #[derive(Clone, PartialEq, Eq, Debug)]
 pub struct Answer {

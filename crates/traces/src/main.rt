@@ -2,8 +2,9 @@
 // into a lent buffer: the answer lines, and then a line of the bytes written, the lines played and 0 or 6.
 //
 // The file stdout isn't made by the port: `compare/plain-answers` makes it of data/ with the plain Rust player of compare/, which plays the
-// unmodified sources, and adds the line of the three numbers. The traces of random calls are `make-trace 1 600`, `2 600` and `3 600` of compare/, the hostile one
-// is such a trace with bytes changed, and those of whole transfers are the ones of examples/.
+// unmodified sources, and adds the line of the three numbers. Which overflows are 13 the Rust doesn't tell: a comment beside the trace does. The
+// traces of random calls are `make-trace 1 600`, `2 600` and `3 600` of compare/, the hostile one is such a trace with bytes changed, and those of
+// whole transfers are the ones of examples/.
 
 fn text(bytes: &[u8]) {
     io::write_all(1, bytes);
@@ -64,7 +65,8 @@ fn forms() {
     all(b"malformed.trace");
     all(b"times.trace");
     all(b"first-time-0.trace");
-    all(b"refused-7.trace");
+    all(b"refused-7.trace"); // 13 on lines 4 6
+    all(b"refused-13.trace"); // 13 on lines 3
     all(b"refused-8.trace");
     all(b"empty.trace");
     all(b"newline.trace");

@@ -1,15 +1,14 @@
--- Definitions: waits of half clocks (`HalfWait`; numbers in brackets are lines of iic.rs). They look at the system domain alone. Sums past
--- 64 bits are refusal 7, a time that went back is 8.
-use Prim.Native.Nat.{ℕ, _+_, _-_}
+-- Definitions: waits of half clocks (`HalfWait`; numbers in brackets are lines of iic.rs). They look at the system domain alone. A
+-- half count that can't be doubled is refusal 7, a sum of half counts past 64 bits is 13, a time that went back is 8.
+use Prim.Native.Nat.{ℕ, _+_, _-_, _^_}
 use mathlib.Core.Bool.{Bool, true, false, not, _&&_, cond}
-use lib.Dec.{leb}
+use lib.Dec.{leb, ltb}
 use Rattle.time.specs.declared.Time.{Time}
 use Rattle.time.specs.declared.Count.{Count}
 use Rattle.time.specs.declared.Count.the-variants as count
 use Rattle.clocks.specs.declared.domain.Domain.{Domain}
 use Rattle.clocks.specs.declared.wait.Deadline.{Deadline}
 use Rattle.clocks.specs.declared.wait.Deadline.the-variants as deadline
-use Rattle.clocks.specs.Counts.{fits}
 use Rattle.clocks.specs.Domain.{domainHalfTicks, domainHalfEdge}
 use Rattle.clocks.specs.Wait.{dated}
 use Rattle.waits.specs.declared.HalfWait.{HalfWait}
@@ -20,9 +19,13 @@ use Rattle.waits.specs.declared.NewHalf.the-variants as half
 unfoldable pub differenceOf : ℕ → ℕ → Count
 differenceOf a b = cond (leb b a) (count.Of (a - b)) (count.Refused 8)
 
+-- a half count and so many halves more; refusal 13 where the sum passes 64 bits (document 02, (b))
+abbrev pub halfSum : ℕ → ℕ → Count
+halfSum t n = cond (ltb (t + n) (2 ^ 64)) (count.Of (t + n)) (count.Refused 13)
+
 -- a count and so many more (28)
 abbrev pub further : Count → ℕ → Count
-further (count.Of t) n = fits (t + n)
+further (count.Of t) n = halfSum t n
 further (count.Refused e) n = count.Refused e
 
 -- what is left of n at a count (41)

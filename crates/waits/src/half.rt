@@ -1,9 +1,8 @@
 // Waits of half clocks of the system clock.
 ghost use mathlib.Core.Path.{_≡_};
-ghost use Rattle.waits.specs.Half.{differenceOf, further, leftOf, madeHalf, halfAfter, halfDeadline, halfPause, halfResume};
+ghost use Rattle.waits.specs.Half.{differenceOf, halfSum, further, leftOf, madeHalf, halfAfter, halfDeadline, halfPause, halfResume};
 use super::HalfWait;
 use super::NewHalf;
-use clocks::counts::checked_add;
 use clocks::domain::Domain;
 use clocks::wait::Deadline;
 use clocks::wait::dated;
@@ -21,11 +20,22 @@ fn difference_of(a: u64, b: u64) -> Count
     }
 }
 
+// The sum of a half count and so many halves more, or 13 where it passes 64 bits.
+fn half_sum(at: u64, more: u64) -> Count
+    ensures { λ r. ⌜ r ≡ halfSum at more ⌝ }
+{
+    if more <= u64::MAX - at {
+        Count::Of(at + more)
+    } else {
+        Count::Refused(13)
+    }
+}
+
 fn further(at: Count, n: u64) -> Count
     ensures { λ r. ⌜ r ≡ further at n ⌝ }
 {
     match at {
-        Count::Of(t) => checked_add(t, n),
+        Count::Of(t) => half_sum(t, n),
         Count::Refused(e) => Count::Refused(e),
     }
 }

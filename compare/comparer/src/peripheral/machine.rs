@@ -159,7 +159,8 @@ impl Machine {
         let [answer, checked] = [side, 2].map(|side| &self.answers[side]);
         let gives = if end == End::Done { call.gives() } else { 0 };
         let [given, expected] = [answer, checked].map(|answer| &answer.words[1..=gives]);
-        if answer.end == end && given == expected {
+        let ended = if side == 0 { answer.end.as_rust() } else { answer.end };
+        if ended == end && given == expected {
             return Ok(());
         }
         differs(call, format!("{end:?} {expected:x?} expected, {name} {:?} {given:x?}", answer.end))

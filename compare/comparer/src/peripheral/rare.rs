@@ -18,6 +18,9 @@ const HOLDS: [&str; 2] = ["Transmit", "Receive"];
 /// The flags of the status, high to low.
 const FLAGS: [&str; 8] = ["TDRE", "TEND", "RDRF", "NACKF", "STOP", "AL", "AAS", "ADZ"];
 
+/// The refusals that a call draws from the default.
+const REFUSED: [u8; 3] = [7, 8, 13];
+
 /// How often it came up in runs from the default.
 #[derive(Default)]
 pub struct Rare {
@@ -32,8 +35,8 @@ pub struct Rare {
     visits: [u64; 3],
     /// Interrupts by a retained enable alone.
     retained: u64,
-    /// Calls refused 7 and 8.
-    refused: [u64; 2],
+    /// Calls refused with each of `REFUSED`.
+    refused: [u64; REFUSED.len()],
 }
 
 /// A call of a run, and what came of it.
@@ -72,7 +75,7 @@ impl Rare {
         let near = |wait: usize| state[wait] != 0 && state[wait + 1] >= u64::MAX - NEAR;
         self.near_the_top += u64::from(near(iic::CLOCK_WAIT) || near(iic::MONITOR_WAIT));
         self.retained += u64::from(seen.asked.retained_alone);
-        for (place, number) in [7, 8].into_iter().enumerate() {
+        for (place, number) in REFUSED.into_iter().enumerate() {
             self.refused[place] += u64::from(seen.end == End::Refused(number));
         }
         self.look_at_time(seen);
@@ -101,7 +104,7 @@ impl Rare {
         for number in [1, 2, 9, 10] {
             add(format!("{number} at a call"), "made", tally::refusals(&tally.refused, number));
         }
-        for (number, count) in [7, 8].into_iter().zip(self.refused) {
+        for (number, count) in REFUSED.into_iter().zip(self.refused) {
             add(format!("{number} at a call"), "default", count);
         }
         for (number, from) in [(9, "default"), (10, "made"), (11, "made"), (12, "default")] {

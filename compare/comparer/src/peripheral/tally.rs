@@ -5,7 +5,7 @@ use crate::report::Partings;
 use words::calls::End;
 
 /// The refusals that the peripheral draws.
-const NUMBERS: [u8; 8] = [1, 2, 7, 8, 9, 10, 11, 12];
+const NUMBERS: [u8; 9] = [1, 2, 7, 8, 9, 10, 11, 12, 13];
 
 /// Ends of calls by the number of the refusal.
 pub type Refusals = [u64; NUMBERS.len()];

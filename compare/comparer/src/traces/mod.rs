@@ -4,6 +4,7 @@ mod players;
 use crate::options::Options;
 use crate::shrink::{self, SHOWN};
 use examples::Example;
+use plain_player::Played;
 use players::{Feeding, Program};
 use std::path::Path;
 use std::time::Instant;
@@ -80,7 +81,7 @@ impl Comparison {
     fn example(&mut self, Example { name, trace, answers }: &Example) {
         self.check(trace, trace.len() * 3);
         self.feed(trace, Feeding::Whole);
-        let played = plain_player::play(trace, usize::MAX).bytes;
+        let played = plain_player::play_like(answers, trace, usize::MAX).bytes;
         if played != *answers && self.differs(&format!("what stands in examples/{name}.answers")) {
             print_parting(&played, ("the file", Ok(answers)));
         }
@@ -175,19 +176,22 @@ impl Comparison {
 
     /// One of the port's players against the plain player, with room for so many bytes.
     fn compare(&mut self, who: &str, trace: &[u8], room: usize, port: impl Fn(&[u8]) -> Result<Vec<u8>, String>) {
-        let plain = plain_player::play(trace, room);
+        let ours = port(trace);
+        let plain = plain(&ours, trace, room);
         self.lines += plain.lines as u64;
-        if port(trace).as_ref() == Ok(&plain.bytes) || !self.differs(who) {
+        if ours.as_ref() == Ok(&plain.bytes) || !self.differs(who) {
             return;
         }
         let mut lines: Vec<&[u8]> = trace.split_inclusive(|byte| *byte == b'\n').collect();
         shrink::shorten(&mut lines, |lines| {
             let part = lines.concat();
-            port(&part) != Ok(plain_player::play(&part, room).bytes)
+            let ours = port(&part);
+            ours != Ok(plain(&ours, &part, room).bytes)
         });
         let part = lines.concat();
+        let ours = port(&part);
         println!("  on {}", short(&part));
-        print_parting(&plain_player::play(&part, room).bytes, ("port", port(&part).as_ref()));
+        print_parting(&plain(&ours, &part, room).bytes, ("port", ours.as_ref()));
     }
 
     /// Counts a difference, and tells whether it is one of those that are shown.
@@ -199,6 +203,11 @@ impl Comparison {
         }
         shown
     }
+}
+
+/// What the plain player makes of a trace, its overflows numbered as the port's answers have them.
+fn plain(ours: &Result<Vec<u8>, String>, trace: &[u8], room: usize) -> Played {
+    plain_player::play_like(ours.as_deref().unwrap_or_default(), trace, room)
 }
 
 /// The plain player's answer lines and another's, from the first line that isn't the same.

@@ -87,7 +87,7 @@ impl Case {
 /// Every end that a side can be changed to.
 fn ends() -> impl Iterator<Item = End> {
     let traps = [Trap::Overflow, Trap::Shift, Trap::Index, Trap::Other].map(End::Trapped);
-    [End::Done].into_iter().chain((1..=12).map(End::Refused)).chain(traps)
+    [End::Done].into_iter().chain((1..=13).map(End::Refused)).chain(traps)
 }
 
 /// Each word of the port's state, each word of its answer, each other end.
@@ -99,7 +99,7 @@ fn changes_of_the_port(case: &Case, end: End) {
     for place in 1..=gives {
         case.is_caught(&format!("answer word {place}"), &|machine| machine.answers[0].words[place] ^= 1);
     }
-    for other in ends().filter(|other| *other != end) {
+    for other in ends().filter(|other| other.as_rust() != end) {
         case.is_caught(&format!("{other:?}"), &|machine| machine.answers[0].end = other);
     }
 }

@@ -5,17 +5,17 @@ use Rattle.waits.proofs.half.further.Tie as tie
 enum-known-at : tie.Need-enum-known-at
 enum-known-at c = search needs
 
-checked-add-requires : tie.Need-checked-add-requires
-checked-add-requires c κs = tt
+half-sum-requires : tie.Need-half-sum-requires
+half-sum-requires c κs = tt
 
 enum-known-at-2 : tie.Need-enum-known-at-2
 enum-known-at-2 c = search needs
 
 returns : tie.Need-returns
-returns c = simp (c .checked-add .ensures, c .before .before .at .given .1)
+returns c = simp (c .half-sum .ensures, c .before .before .at .given .1)
 
 returns-2 : tie.Need-returns-2
 returns-2 c = simp (c .before .at2 .given .1)
 
 pub further-spec : {M : Type 1} → statement M
-further-spec = tie.close (tie.spec enum-known-at checked-add-requires enum-known-at-2 returns returns-2)
+further-spec = tie.close (tie.spec enum-known-at half-sum-requires enum-known-at-2 returns returns-2)
