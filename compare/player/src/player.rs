@@ -10,7 +10,7 @@ use std::io::Write;
 /// Refusal 4.
 const MALFORMED: u8 = 4;
 /// Refusal 5.
-const NOT_LATER: u8 = 5;
+const EARLIER: u8 = 5;
 /// Refusals 7 and 13, for which the Rust has one error.
 const OVERFLOW: u8 = 7;
 const HALF_COUNT: u8 = 13;
@@ -80,8 +80,8 @@ impl Player {
 
     fn answer(&mut self, line: &[u8]) -> Result<Value, u8> {
         let (now, call) = line::parse(line).ok_or(MALFORMED)?;
-        if self.last.is_some_and(|last| now <= last) {
-            return Err(NOT_LATER);
+        if self.last.is_some_and(|last| now < last) {
+            return Err(EARLIER);
         }
         self.last = Some(now);
         self.call(now, call).map_err(|error| error.number())

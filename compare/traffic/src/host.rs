@@ -80,7 +80,7 @@ impl Host {
         host
     }
 
-    /// A host that takes over a peripheral in any state, and whose times are each later than the one before. Most are
+    /// A host that takes over a peripheral in any state, and none of whose times is earlier than the one before. Most are
     /// calm.
     pub fn taking_over(random: &mut Random, now: u128, clock: exact::Clock) -> Self {
         let mut host = Self::over_state(random, now, clock);
@@ -124,11 +124,11 @@ impl Host {
         if let Some((address, value)) = self.setup.pop_front() {
             return self.at(random, Call::Write, [address, value]);
         }
-        if self.habits.calm {
-            return self.next_calm(random, state);
-        }
         if self.habits.repeats && fell_now(state, self.now) && random.once_in(3) {
             return self.call(Call::Read, self.now, [7, 0]);
+        }
+        if self.habits.calm {
+            return self.next_calm(random, state);
         }
         if rare(state) && random.once_in(2) {
             return if random.once_in(2) { self.meddle(random, state) } else { self.serve(random, state) };
@@ -192,6 +192,7 @@ fn rare(state: &State) -> bool {
     (on(iic::SYNCHRONIZED_HOLD) || on(iic::MONITOR_WAIT)) && !on(iic::CLOCK_WAIT) || on(iic::HOLD) && !on(iic::FRAME)
 }
 
-fn fell_now(state: &State, now: u128) -> bool {
+/// Whether the eighth fall of SCL is at this time.
+pub fn fell_now(state: &State, now: u128) -> bool {
     state[iic::EIGHTH_FALL] != 0 && layout::time_at(state, iic::EIGHTH_FALL + 1) == now
 }

@@ -10,7 +10,7 @@ pub fn line(random: &mut Random, last: u128) -> Vec<u8> {
         _ if !early => last.saturating_add(1 + u128::from(random.any_length())),
         0 => 0,
         1 => last.saturating_sub(u128::from(random.any_length())),
-        _ => last,
+        _ => last.saturating_sub(1),
     };
     let mut line = good(random, now);
     if !early {

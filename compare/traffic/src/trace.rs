@@ -1,10 +1,10 @@
 //! Traces: a peripheral is played by one host after the other, with bad lines and questions thrown in.
 use crate::exact;
-use crate::host::Host;
+use crate::host::{self, Host};
 use crate::random::Random;
 use crate::spoil;
 use plain_player::Player;
-use reference::Bridge;
+use reference::{Bridge, Time};
 use words::iic::{Call, Peripheral, State, STATE};
 use words::layout::{self, Args};
 
@@ -20,10 +20,25 @@ struct Generator {
     state: State,
     words: Vec<u64>,
     answers: Vec<u8>,
+    met: Met,
+}
+
+/// How often lines that aren't refused 4 or 5 came in one moment.
+#[derive(Clone, Copy, Default, PartialEq, Eq, Debug)]
+pub struct Met {
+    /// Lines at the time of the line before.
+    pub equal: u64,
+    /// Of these, reads of ICDRR at the eighth fall.
+    pub at_eighth_fall: u64,
 }
 
 /// So many lines, the last with or without its newline. About nine in ten are answered 0.
 pub fn trace(seed: u64, lines: usize) -> Vec<u8> {
+    counted(seed, lines).0
+}
+
+/// The same, and what it meets.
+pub fn counted(seed: u64, lines: usize) -> (Vec<u8>, Met) {
     let mut generator = Generator::new(Random::new(seed));
     let late = if generator.random.once_in(4) { lines - lines / 25 } else { lines };
     let mut out = Vec::with_capacity(lines * 28);
@@ -37,7 +52,7 @@ pub fn trace(seed: u64, lines: usize) -> Vec<u8> {
     if generator.random.once_in(4) && !out.ends_with(b"\n\n") {
         out.pop();
     }
-    out
+    (out, generator.met)
 }
 
 impl Generator {
@@ -50,7 +65,7 @@ impl Generator {
         let host = Host::taking_over(&mut random, begin, CLOCK);
         let player = Player::default();
         let state = [0; STATE];
-        Self { random, player, host, left: 0, state, words: Vec::new(), answers: Vec::new() }
+        Self { random, player, host, left: 0, state, words: Vec::new(), answers: Vec::new(), met: Met::default() }
     }
 
     /// To a little before half counts reach 2^64, from where on every half wait is refused.
@@ -73,11 +88,26 @@ impl Generator {
         }
         out.push(b'\n');
         self.answers.clear();
+        let last = self.player.last();
         self.player.play(&out[start..], &mut self.answers);
+        self.count(last, &out[start..]);
         Bridge::words(self.player.iic(), &mut self.words);
         self.state.copy_from_slice(&self.words);
         self.host.reach(self.player.last().map_or(0, |at| at.raw()));
         self.host.saw(self.player.deadline().map(|at| at.raw()));
+    }
+}
+
+impl Generator {
+    /// Counts a line that was played at the time of the one before, over the state that it found.
+    fn count(&mut self, last: Option<Time>, line: &[u8]) {
+        let played = self.answers.split(|byte| *byte == b'\t').nth(1).is_some_and(|n| n != b"4" && n != b"5");
+        let Some(now) = last.filter(|_| played && last == self.player.last()) else {
+            return;
+        };
+        self.met.equal += 1;
+        let read = line.ends_with(b"\tr\t7\n");
+        self.met.at_eighth_fall += u64::from(read && host::fell_now(&self.state, now.raw()));
     }
 }
 

@@ -90,6 +90,13 @@ lifting = setGate true (at 0) ∷ write 5 0x01 (at 0) ∷ write 1 0x02 (at 0) �
 abbrev lifted : List Call
 lifted = write 1 0x02 (at 0) ∷ write 1 0x00 (at 0) ∷ write 1 0x02 (at 0) ∷ []
 
+-- calls in one moment, the last of which reads ICSR after a write that raises TDRE, and before it
+abbrev oneMoment : List Call
+oneMoment = setGate true (at 5) ∷ write 5 0x01 (at 5) ∷ write 0 0x90 (at 5) ∷ read 4 (at 5) ∷ []
+
+abbrev otherOrder : List Call
+otherOrder = setGate true (at 5) ∷ write 5 0x01 (at 5) ∷ read 4 (at 5) ∷ []
+
 -- two lists that differ in idle calls alone
 abbrev pub plain : List Made
 plain = made (sending ++ (read 4 (at 0) ∷ []))
@@ -119,6 +126,10 @@ rows =
     -- the first visit after a write that lifts the reset isn't idle, whatever comes between; the second is
     ∷ row (made (lifting ++ (advance (at 0) ∷ advance (at 0) ∷ []))) (lifting ++ (advance (at 0) ∷ [])) nothing
     ∷ row (made (lifted ++ (read 0 (at 0) ∷ advance (at 0) ∷ advance (at 0) ∷ []))) (lifted ++ (advance (at 0) ∷ [])) nothing
+    -- times may be equal, and calls in one moment are made in their order (document 02, (c)); an idle call between them is struck
+    ∷ row (made oneMoment) oneMoment (byte 0x80)
+    ∷ row (made (otherOrder ++ (advance (at 5) ∷ write 0 0x90 (at 5) ∷ []))) (otherOrder ++ (write 0 0x90 (at 5) ∷ [])) nothing
+    ∷ row (made otherOrder) otherOrder (byte 0x00)
     -- the same calls left, and the same answer
     ∷ row plain (sending ++ (read 4 (at 0) ∷ [])) (byte 0x80)
     ∷ row visited (sending ++ (read 4 (at 0) ∷ [])) (byte 0x80)

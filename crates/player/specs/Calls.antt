@@ -1,5 +1,5 @@
 -- Definitions: what a line does (document 01, "The trace player", "Refused because of the input"): 4, then 5, then the call's own refusal.
-use mathlib.Core.Bool.{Bool, true, cond}
+use mathlib.Core.Bool.{Bool, true, not, cond}
 use mathlib.Core.List.{List}
 use Prim.Native.Nat.{ℕ}
 use Rattle.time.specs.declared.Time.{Time}
@@ -48,10 +48,10 @@ outcomeOf k t s AskDeadline = told (ofDeadline (deadlineOf s k)) s
 
 -- ## The line
 
--- each time is later than that of the last line not refused 4 or 5; the first may be any
-abbrev pub laterThan : Last → Time → Bool
-laterThan First t = true
-laterThan (After u) t = earlier u t
+-- no time is earlier than that of the last line not refused 4 or 5 (document 02, (c)); the first may be any
+abbrev pub mayFollow : Last → Time → Bool
+mayFollow First t = true
+mayFollow (After u) t = not (earlier t u)
 
 -- 4 and 5 leave all as it was
 abbrev pub refusedBy : ℕ → Host → Answer
@@ -62,7 +62,7 @@ abbrev pub takenAt : Time → Outcome → Answer
 takenAt t o = record { refusal = o .refusal; value = o .value; host = record { last = After t; state = o .state } }
 
 unfoldable pub calledOf : Clocks → Host → Call → Answer
-calledOf k h c = cond (laterThan (h .last) (c .time)) (takenAt (c .time) (outcomeOf k (c .time) (h .state) (c .verb))) (refusedBy 5 h)
+calledOf k h c = cond (mayFollow (h .last) (c .time)) (takenAt (c .time) (outcomeOf k (c .time) (h .state) (c .verb))) (refusedBy 5 h)
 
 abbrev pub parsedOf : Clocks → Host → Parsed → Answer
 parsedOf k h Malformed = refusedBy 4 h

@@ -3,7 +3,7 @@ ghost use mathlib.Core.Path.{_≡_};
 ghost use Rattle.iic.specs.Calls.{advanceOf, deadlineOf};
 ghost use Rattle.iic.specs.Told.{ofByte, ofDeadline, ofEnd, ofTruth};
 ghost use Rattle.player.specs.Trace.{traceClocks};
-ghost use Rattle.player.specs.Calls.{laterThan, told, outcomeOf, refusedBy, takenAt, calledOf, answerOf};
+ghost use Rattle.player.specs.Calls.{mayFollow, told, outcomeOf, refusedBy, takenAt, calledOf, answerOf};
 use super::Answer;
 use super::Call;
 use super::Host;
@@ -166,11 +166,11 @@ fn taken_at(time: Time, done: Outcome) -> Answer
 impl Last {
     // Whether a time may follow.
     fn admits(self, time: Time) -> bool
-        ensures { λ r. ⌜ r ≡ laterThan self time ⌝ }
+        ensures { λ r. ⌜ r ≡ mayFollow self time ⌝ }
     {
         match self {
             Last::First => true,
-            Last::After(last) => last.before(time),
+            Last::After(last) => !time.before(last),
         }
     }
 }
@@ -192,8 +192,8 @@ impl Host {
         let last = self.last;
         let verb = call.verb;
         let time = call.time;
-        let later = last.admits(time);
-        if later {
+        let follows = last.admits(time);
+        if follows {
             taken_at(time, outcome(verb, time, self.state))
         } else {
             self.refused(5)

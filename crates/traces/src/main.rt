@@ -65,7 +65,7 @@ fn forms() {
     all(b"malformed.trace");
     all(b"times.trace");
     all(b"first-time-0.trace");
-    all(b"refused-7.trace"); // 13 on lines 4 6
+    all(b"refused-7.trace"); // 13 on lines 4 5 6
     all(b"refused-13.trace"); // 13 on lines 3
     all(b"refused-8.trace");
     all(b"empty.trace");

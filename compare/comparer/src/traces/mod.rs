@@ -9,7 +9,7 @@ use players::{Feeding, Program};
 use std::path::Path;
 use std::time::Instant;
 use traffic::random::Random;
-use traffic::trace;
+use traffic::trace::{self, Met};
 
 /// Lines of most traces.
 const LINES: usize = 10_000;
@@ -25,6 +25,7 @@ struct Comparison {
     played: u64,
     fed: u64,
     lines: u64,
+    met: Met,
     differences: u64,
 }
 
@@ -39,7 +40,8 @@ pub fn compare(options: &Options) -> u64 {
     };
     let start = Instant::now();
     let random = Random::new(options.seed);
-    let mut comparison = Comparison { random, program, played: 0, fed: 0, lines: 0, differences: 0 };
+    let mut comparison =
+        Comparison { random, program, played: 0, fed: 0, lines: 0, met: Met::default(), differences: 0 };
     comparison.section("examples", Comparison::examples);
     comparison.section("buffers of 0 to 400 bytes", Comparison::buffers);
     comparison.section("bytes at random", Comparison::noise);
@@ -51,6 +53,8 @@ pub fn compare(options: &Options) -> u64 {
             c.generated(LINES);
         }
     });
+    let Met { equal, at_eighth_fall } = comparison.met;
+    println!("lines at the time of the line before: {equal}, ICDRR read at the eighth fall: {at_eighth_fall}");
     println!("traces: seed {}, {:.1} s", options.seed, start.elapsed().as_secs_f64());
     comparison.differences
 }
@@ -151,7 +155,10 @@ impl Comparison {
     }
 
     fn trace(&mut self, lines: usize) -> Vec<u8> {
-        trace::trace(self.random.word(), lines)
+        let (trace, met) = trace::counted(self.random.word(), lines);
+        self.met.equal += met.equal;
+        self.met.at_eighth_fall += met.at_eighth_fall;
+        trace
     }
 
     /// A generated trace, through all three.

@@ -31,8 +31,8 @@ pub struct Habits {
     pub repeats: bool,
     pub back: bool,
     pub late: bool,
-    /// Whether each time is later than the one before.
-    pub later: bool,
+    /// Whether no time is earlier than the one before.
+    pub forward: bool,
     /// Whether visits come at the time of any wait, be it not the next or past; whether time jumps to where counts or
     /// times end; whether nobody waits while the peripheral holds SCL; whether what got stuck is left so.
     pub astray: bool,
@@ -69,7 +69,7 @@ impl Habits {
             repeats: !random.once_in(3),
             back: random.once_in(4),
             late: astray || random.once_in(4),
-            later: false,
+            forward: false,
             astray,
             jumps: random.once_in(8),
             forced: random.once_in(6),
@@ -83,10 +83,10 @@ impl Habits {
         }
     }
 
-    /// Each time is later than the one before, by little.
+    /// No time is earlier than the one before, or much later.
     pub fn go_forward(&mut self) {
-        (self.repeats, self.back, self.jumps) = (false, false, false);
-        self.later = true;
+        (self.back, self.jumps) = (false, false);
+        self.forward = true;
     }
 
     /// Whole transfers with those whom the driver needs, everybody told of the lines and visited in time.

@@ -7,7 +7,7 @@ use words::layout::{self, Args};
 
 impl Host {
     pub(super) fn call(&mut self, call: Call, now: u128, operands: [u64; 2]) -> (Call, Args) {
-        self.now = if self.habits.later { now.max(self.now.saturating_add(1)) } else { now };
+        self.now = if self.habits.forward { now.max(self.now) } else { now };
         (call, iic::args(self.now, operands))
     }
 
@@ -24,9 +24,7 @@ impl Host {
         let now = match self.deadline {
             _ if self.habits.back && random.once_in(20) => self.earlier(random),
             _ if self.habits.jumps && random.once_in(300) => self.jump(random),
-            Some(at) if !self.habits.late && at >= self.now => {
-                next.min(at - u128::from(self.habits.later && at > self.now))
-            }
+            Some(at) if !self.habits.late && at >= self.now => next.min(at),
             _ => next,
         };
         self.call(call, now, operands)

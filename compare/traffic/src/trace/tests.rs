@@ -1,4 +1,4 @@
-use super::trace;
+use super::{counted, trace};
 use plain_player::play;
 
 /// FNV-1a, 64 bits.
@@ -11,7 +11,7 @@ fn hash(bytes: &[u8]) -> u64 {
 #[test]
 fn a_seed_keeps_its_trace() {
     let hashes = [1, 7, 20102].map(|seed| hash(&trace(seed, 10_000)));
-    assert_eq!(hashes, [0xd04d_25f9_c2f0_e978, 0x7fcb_5654_e723_38ba, 0xc4e1_08a9_2806_2a0f], "{hashes:#x?}");
+    assert_eq!(hashes, [0xe340_45d6_605d_a473, 0x8a1c_b59e_7396_28b6, 0x4b4f_2093_6a2b_e119], "{hashes:#x?}");
 }
 
 #[test]
@@ -44,6 +44,8 @@ fn what_traces_hold() {
             }
         }
     }
+    let met = [1, 2, 3].map(|seed| counted(seed, 10_000).1);
+    assert!(met.iter().all(|met| met.equal > 100 && met.at_eighth_fall > 0), "{met:?}");
     println!("{lines} lines, {answered} answered 0, r w p g v d {verbs:?}, flags {flags:02x}, by number {numbers:?}");
     assert!(answered * 10 >= lines * 9);
     assert!(verbs.iter().all(|count| *count > 1000));
