@@ -7,7 +7,7 @@ use native.Mathlib.Nat.{eq-zero-or-pos, pow-suc}
 use native.Mathlib.Omega.{arith}
 use lib.Dec.{eqb}
 use mir.Val.{boolByte}
-use lib.Bits.{bitAnd, and-step, and-zero-l}
+use lib.Bits.{bitAnd, and-step}
 use borrow.Author.Tests.{eq-eqb, ne-eqb}
 use Rattle.window.specs.Lines.{risesIn, riseOf}
 

@@ -1,7 +1,8 @@
 // How busy the bus is (document 02, request (d)): in how many lines of a trace a flag rose, over blocks of 16 lines.
 ghost use mathlib.Core.Path.{_≡_};
-ghost use Rattle.window.specs.Lines.{riseOf};
-ghost use Rattle.window.specs.Window.{emptyWindow, openedOf, takeOf, reportOf};
+ghost use mathlib.Core.List.{List};
+ghost use Rattle.window.specs.Lines.{Line, riseOf, rises, fourBlocks};
+ghost use Rattle.window.specs.Window.{emptyWindow, openedOf, takeOf, reportOf, windowOf};
 
 // What is kept of the lines taken so far.
 pub struct Window {
@@ -70,6 +71,7 @@ impl Window {
     // In how many lines a flag rose, among the last line's block and the three blocks before it.
     pub fn report(self) -> u64
         ensures { λ r. ⌜ r ≡ reportOf self ⌝ }
+        ensures { λ r. ⌜ ((lines : List Line) → self ≡ windowOf lines → r ≡ rises (fourBlocks lines)) ⌝ }
     {
         self.present as u64 + self.previous as u64 + self.earlier as u64 + self.earliest as u64
     }
