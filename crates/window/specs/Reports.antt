@@ -1,4 +1,4 @@
--- Definitions: request (d) of document 02, the statements on what a window reports after any list of lines. Their proofs are in ReportLaws.antt.
+-- Definitions: request (d) of document 02, the statements on what a window reports after any lines. Their proofs are in ReportLaws.antt.
 use mathlib.Core.Path.{_≡_}
 use mathlib.Core.Logic.{_⊎_}
 use mathlib.Core.List.{List}
@@ -7,7 +7,7 @@ use lib.ListN.{length}
 use Rattle.window.specs.Lines.{Line, rises, latest, fourBlocks}
 use Rattle.window.specs.Window.{reportOf, windowOf}
 
--- "The report equals that count, taken from the lines themselves": in how many of the lines of the last line's block and of the three before it a flag rose
+-- "The report equals that count, taken from the lines themselves": of those of the last line's block and the three before it
 abbrev pub CountsFourBlocks : Type 0
 CountsFourBlocks = (lines : List Line) → reportOf (windowOf lines) ≡ rises (fourBlocks lines)
 

@@ -1,5 +1,5 @@
--- Definitions: the window, empty, after one line more, and after a list of lines (document 02, request (d)). Of windows that are handed in, whatever they hold,
--- the position counts modulo 16 and the present block's count modulo 256.
+-- Definitions: the window, empty, after one line more, and after a list of lines (document 02, request (d)). In a window that is handed in,
+-- whatever it holds, the position counts modulo 16 and the present block's count modulo 256.
 use Prim.Native.Nat.{ℕ, _+_, _%_}
 use mathlib.Core.Bool.{cond}
 use mathlib.Core.List.{List, foldl}
