@@ -2,6 +2,7 @@
 mod busy;
 mod line;
 mod player;
+pub use busy::Busy;
 pub use player::Player;
 
 /// After so many lines no more is read.
@@ -38,7 +39,7 @@ fn play_by(mut player: Player, trace: &[u8], capacity: usize) -> Played {
 
 /// The reports on a trace, in at most so many bytes: for each line its number and how busy the bus is.
 pub fn busy(trace: &[u8], capacity: usize) -> Played {
-    let mut busy = busy::Busy::default();
+    let mut busy = Busy::default();
     each_line(trace, capacity, |line, out| busy.play(line, out))
 }
 

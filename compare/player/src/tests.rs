@@ -113,7 +113,7 @@ fn lines_in_which_a_flag_rose() {
     assert_eq!(reports(EXAMPLE), "1 0\n2 1\n3 1\n4 1\n5 1\n");
     assert_eq!(reports(""), "");
     // TDRE rises, lines refused 4 and 5, TDRE falls, and rises once more.
-    let trace = "1 0000000000000000 w 0 10\nx\n1 0000000000000000 r 4\n1 0000000000000001 r 4\n\
+    let trace = "1 0000000000000000 w 0 10\nx\n0 ffffffffffffffff r 4\n1 0000000000000001 r 4\n\
         1 0000000000000002 w 4 00\n1 0000000000000003 w 0 00\n1 0000000000000004 w 0 10\n";
     let said = "1 0 - - 80\n2 4 - - 80\n3 5 - - 80\n4 0 80 - 80\n5 0 - - 00\n6 0 - - 00\n7 0 - - 80\n";
     assert_eq!(answers(trace), said);
