@@ -1,6 +1,8 @@
 //! Plays traces, as document 01 has them ("The trace player"), over the peripheral of docs/src.
+mod busy;
 mod line;
 mod player;
+pub use busy::Busy;
 pub use player::Player;
 
 /// After so many lines no more is read.
@@ -11,7 +13,7 @@ pub const ROOM: usize = 80;
 /// What became of a whole trace.
 #[derive(Clone, PartialEq, Eq, Debug)]
 pub struct Played {
-    /// The answer lines.
+    /// The answer lines, or the reports.
     pub bytes: Vec<u8>,
     /// How many there are.
     pub lines: usize,
@@ -21,24 +23,34 @@ pub struct Played {
 
 /// Plays a trace into at most so many bytes.
 pub fn play(trace: &[u8], capacity: usize) -> Played {
-    played(Player::default(), trace, capacity)
+    play_by(Player::default(), trace, capacity)
 }
 
 /// The same, where overflows are 13 on the lines that some answers have so: the Rust doesn't tell them from 7.
 pub fn play_like(answers: &[u8], trace: &[u8], capacity: usize) -> Played {
     let lines = answers.split(|byte| *byte == b'\n').enumerate();
     let half_counts = lines.filter(|(_, line)| line.split(|byte| *byte == b'\t').nth(1) == Some(b"13"));
-    played(Player::told(half_counts.map(|(place, _)| place + 1).collect()), trace, capacity)
+    play_by(Player::told(half_counts.map(|(place, _)| place + 1).collect()), trace, capacity)
 }
 
-fn played(mut player: Player, trace: &[u8], capacity: usize) -> Played {
+fn play_by(mut player: Player, trace: &[u8], capacity: usize) -> Played {
+    each_line(trace, capacity, |line, out| player.play(line, out))
+}
+
+/// The reports on a trace, in at most so many bytes: for each line its number and how busy the bus is.
+pub fn busy(trace: &[u8], capacity: usize) -> Played {
+    let mut busy = Busy::default();
+    each_line(trace, capacity, |line, out| busy.play(line, out))
+}
+
+fn each_line(trace: &[u8], capacity: usize, mut play: impl FnMut(&[u8], &mut Vec<u8>)) -> Played {
     let mut played = Played { bytes: Vec::new(), lines: 0, refusal: 0 };
     for line in trace.split_inclusive(|byte| *byte == b'\n').take(MOST_LINES) {
         if capacity - played.bytes.len() < ROOM {
             played.refusal = 6;
             break;
         }
-        player.play(line, &mut played.bytes);
+        play(line, &mut played.bytes);
         played.lines += 1;
     }
     played

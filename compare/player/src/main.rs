@@ -1,6 +1,6 @@
-//! Plays the trace of standard input and prints its answer lines. Arguments are numbers of lines: an overflow there is
-//! that of a half count, 13, which the Rust doesn't tell from 7.
-use plain_player::{Player, MOST_LINES};
+//! Plays the trace of standard input and prints its answer lines, or with the argument `busy` its reports. Other
+//! arguments are numbers of lines: an overflow there is that of a half count, 13, which the Rust doesn't tell from 7.
+use plain_player::{Busy, Player, MOST_LINES};
 use std::env;
 use std::io::{self, BufRead, Write};
 use std::process::ExitCode;
@@ -16,9 +16,17 @@ fn main() -> ExitCode {
 }
 
 fn play() -> io::Result<()> {
-    let numbers =
-        env::args().skip(1).map(|number| number.parse().map_err(|e| io::Error::other(format!("{number}: {e}"))));
+    let mut words = env::args().skip(1).peekable();
+    if words.next_if_eq("busy").is_some() {
+        let mut busy = Busy::default();
+        return each_line(|line, out| busy.play(line, out));
+    }
+    let numbers = words.map(|number| number.parse().map_err(|e| io::Error::other(format!("{number}: {e}"))));
     let mut player = Player::told(numbers.collect::<io::Result<_>>()?);
+    each_line(|line, out| player.play(line, out))
+}
+
+fn each_line(mut play: impl FnMut(&[u8], &mut Vec<u8>)) -> io::Result<()> {
     let mut input = io::stdin().lock();
     let mut output = io::BufWriter::new(io::stdout().lock());
     let (mut line, mut answer) = (Vec::new(), Vec::new());
@@ -28,7 +36,7 @@ fn play() -> io::Result<()> {
             break;
         }
         answer.clear();
-        player.play(&line, &mut answer);
+        play(&line, &mut answer);
         output.write_all(&answer)?;
     }
     output.flush()

@@ -55,6 +55,11 @@ impl Player {
         &self.iic
     }
 
+    /// ICSR after the lines played.
+    pub fn status(&self) -> u8 {
+        self.iic.peek(STATUS)
+    }
+
     /// The time of the last line that wasn't refused 4 or 5.
     pub fn last(&self) -> Option<Time> {
         self.last
@@ -74,7 +79,7 @@ impl Player {
             Err(OVERFLOW) if self.half_counts.contains(&self.lines) => (HALF_COUNT, Value::None),
             Err(number) => (number, Value::None),
         };
-        let (number, levels, status) = (self.lines, Levels(self.iic.pins()), self.iic.peek(STATUS));
+        let (number, levels, status) = (self.lines, Levels(self.iic.pins()), self.status());
         writeln!(out, "{number}\t{refusal}\t{value}\t{levels}\t{status:02x}").expect("a vector takes all");
     }
 

@@ -1,4 +1,5 @@
-use crate::{play, Played};
+use crate::busy::report;
+use crate::{busy, play, Played};
 
 /// A trace or answer lines with spaces for tabs.
 fn tabs(text: &str) -> Vec<u8> {
@@ -7,6 +8,10 @@ fn tabs(text: &str) -> Vec<u8> {
 
 fn answers(trace: &str) -> String {
     String::from_utf8(play(&tabs(trace), usize::MAX).bytes).unwrap().replace('\t', " ")
+}
+
+fn reports(trace: &str) -> String {
+    String::from_utf8(busy(&tabs(trace), usize::MAX).bytes).unwrap().replace('\t', " ")
 }
 
 const EXAMPLE: &str = "0 0000000000000001 g 1\n0 0000000000000002 w 0 b0\n0 0000000000000003 r 4\n\
@@ -101,4 +106,41 @@ fn a_million_lines_and_no_more() {
     let exact = played.bytes.len() + 80 - b"1000000\t4\t-\t-\t00\n".len();
     assert_eq!(play(&b"\n".repeat(1_000_001), exact).refusal, 0);
     assert_eq!(play(&b"\n".repeat(1_000_001), exact - 1).lines, 999_999);
+}
+
+#[test]
+fn lines_in_which_a_flag_rose() {
+    assert_eq!(reports(EXAMPLE), "1 0\n2 1\n3 1\n4 1\n5 1\n");
+    assert_eq!(reports(""), "");
+    // TDRE rises, lines refused 4 and 5, TDRE falls, and rises once more.
+    let trace = "1 0000000000000000 w 0 10\nx\n0 ffffffffffffffff r 4\n1 0000000000000001 r 4\n\
+        1 0000000000000002 w 4 00\n1 0000000000000003 w 0 00\n1 0000000000000004 w 0 10\n";
+    let said = "1 0 - - 80\n2 4 - - 80\n3 5 - - 80\n4 0 80 - 80\n5 0 - - 00\n6 0 - - 00\n7 0 - - 80\n";
+    assert_eq!(answers(trace), said);
+    assert_eq!(reports(trace), "1 1\n2 1\n3 1\n4 1\n5 1\n6 1\n7 2\n");
+}
+
+#[test]
+fn reports_have_the_room_of_answers() {
+    let bytes = tabs("1 0\n2 1\n");
+    assert_eq!(busy(&tabs(EXAMPLE), 80 + 4), Played { bytes, lines: 2, refusal: 6 });
+    assert_eq!(busy(&tabs(EXAMPLE), 79), Played { bytes: Vec::new(), lines: 0, refusal: 6 });
+    assert_eq!(busy(&b"\n".repeat(1_000_001), usize::MAX).lines, 1_000_000);
+}
+
+#[test]
+fn reports_by_blocks() {
+    let all = [true; 96];
+    for lines in 0..=64 {
+        assert_eq!(report(&all[..lines]), lines);
+    }
+    for lines in 65..=96 {
+        assert_eq!(report(&all[..lines]), 49 + (lines - 1) % 16, "{lines}");
+    }
+    // The first line of a block alone.
+    let mut one = [false; 96];
+    one[16] = true;
+    for lines in 0..=96 {
+        assert_eq!(report(&one[..lines]), usize::from((17..=80).contains(&lines)), "{lines}");
+    }
 }

@@ -1,8 +1,9 @@
-// Plays the trace on standard input and writes its answer lines to standard output as they come, in two buffers of 64 KiB, whatever the
-// length of the trace or of a line.
+// Plays the trace on standard input and writes its answer lines to standard output as they come, or with the argument `busy` its reports, in two
+// buffers of 64 KiB, whatever the length of the trace or of a line.
 ghost use mathlib.Core.Path.{_≡_};
 ghost use Prim.Native.Nat.{_-_, _≤_, min};
 ghost use lib.ListN.{length, take, drop};
+use player::Output;
 use player::Player;
 
 // The bytes of the part that were played, the player after them, and whether all that they gave was written.
@@ -30,10 +31,10 @@ fn write_out(text: &[u8]) -> bool {
 }
 
 // Plays what the output has room for and writes it.
-fn play_some(player: Player, part: &[u8], ended: bool, output: &mut [u8]) -> Played
+fn play_some(player: Player, wanted: Output, part: &[u8], ended: bool, output: &mut [u8]) -> Played
     ensures { λ r. ⌜ r .used ≤ length (now (part .entry)) ⌝ }
 {
-    let p = player.play_lines(part, ended, output);
+    let p = player.play_lines(wanted, part, ended, output);
     let written = p.written;
     let fine = write_out(&output[0..written]);
     let next = p.player;
@@ -45,13 +46,13 @@ fn play_some(player: Player, part: &[u8], ended: bool, output: &mut [u8]) -> Pla
 }
 
 // Plays the whole lines of a part, the output emptied as often as it is full.
-fn play_part(player: Player, part: &[u8], ended: bool, output: &mut [u8]) -> Played
+fn play_part(player: Player, wanted: Output, part: &[u8], ended: bool, output: &mut [u8]) -> Played
     ensures { λ r. ⌜ r .used ≤ length (now (part .entry)) ⌝ }
 {
     let mut used = 0usize;
     let mut last = player;
     while used < part.len() {
-        let p = play_some(last, &part[used..], ended, output);
+        let p = play_some(last, wanted, &part[used..], ended, output);
         let next = p.player;
         last = next;
         used += p.used;
@@ -94,7 +95,13 @@ fn keep(input: &mut [u8], from: usize, n: usize) -> usize
 }
 
 // One read, after the bytes that are held, and its lines.
-fn next_turn(player: Player, input: &mut [u8], have: usize, output: &mut [u8]) -> Turn
+fn next_turn(
+    player: Player,
+    wanted: Output,
+    input: &mut [u8],
+    have: usize,
+    output: &mut [u8],
+) -> Turn
     requires { ⌜ have ≤ length (now input) ⌝ }
     ensures { λ r. ⌜ r .have ≤ 65 ⌝ }
 {
@@ -109,7 +116,7 @@ fn next_turn(player: Player, input: &mut [u8], have: usize, output: &mut [u8]) -
     }
     let n = have + io::count(got, &input[have..]);
     let ended = n == have;
-    let p = play_part(player, &input[0..n], ended, output);
+    let p = play_part(player, wanted, &input[0..n], ended, output);
     let next = p.player;
     let kept = keep(input, p.used, n);
     Turn {
@@ -119,7 +126,7 @@ fn next_turn(player: Player, input: &mut [u8], have: usize, output: &mut [u8]) -
     }
 }
 
-fn run(input: &mut [u8], output: &mut [u8])
+fn run(wanted: Output, input: &mut [u8], output: &mut [u8])
     requires { ⌜ 65 ≤ length (now input) ⌝ }
 {
     let mut player = Player::new();
@@ -127,7 +134,7 @@ fn run(input: &mut [u8], output: &mut [u8])
     let mut turns = u64::MAX;
     while 0 < turns {
         turns -= 1;
-        let t = next_turn(player, input, have, output);
+        let t = next_turn(player, wanted, input, have, output);
         if !t.more {
             return;
         }
@@ -137,8 +144,26 @@ fn run(input: &mut [u8], output: &mut [u8])
     }
 }
 
+// Whether a word is `busy`.
+fn says_busy(word: &[u8]) -> bool {
+    if word.len() == 4 {
+        return (word[0] == b'b') & (word[1] == b'u') & (word[2] == b's') & (word[3] == b'y');
+    }
+    false
+}
+
+// Reports where the first argument is `busy`, else answer lines.
+fn wanted() -> Output {
+    let mut word = [0u8; 5];
+    let n = os::arg(1, &mut word);
+    if says_busy(&word[0..n]) {
+        return Output::Reports;
+    }
+    Output::Answers
+}
+
 fn main() {
     let mut input = io::large_buffer();
     let mut output = io::large_buffer();
-    run(&mut input, &mut output);
+    run(wanted(), &mut input, &mut output);
 }

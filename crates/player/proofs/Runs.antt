@@ -9,16 +9,18 @@ use native.Mathlib.Omega.{arith}
 use lib.Dec.{ltb}
 use lib.ListN.{length, take, drop, length-append, length-drop, take-append-drop}
 use lib.Seq.{length-take-le, drop-drop, take-at, drop-at}
+use Rattle.window.specs.declared.Window.{Window}
 use Rattle.clocks.specs.declared.Clocks.{Clocks}
+use Rattle.player.specs.declared.Output.{Output}
 use Rattle.player.specs.declared.Player.{Player}
 use Rattle.player.specs.declared.Answer.{Answer}
 use Rattle.player.specs.Lines.{linesIn, lineLength}
 use Rattle.player.specs.LineLaws.{line-next}
 use Rattle.player.specs.Calls.{answerOf}
 use Rattle.player.specs.Puts.{Put}
-use Rattle.player.specs.Answers.{textOf}
+use Rattle.player.specs.Answers.{textBy}
 use Rattle.player.specs.TraceLaws.{run-no-room, run-one-more}
-use Rattle.player.specs.Trace.{linesLeft, Run, stopped, lineText, nextPlayer, run, over, progressOf}
+use Rattle.player.specs.Trace.{answered, linesLeft, Run, stopped, lineText, nextPlayer, run, over, progressOf}
 
 -- bytes and a number used before a run
 abbrev pub prefix : List ℕ → ℕ → Run → Run
@@ -37,55 +39,55 @@ take-next n l ls h = ap (λ (k : ℕ). take k (l ∷ ls)) (back n h)
 
 -- ## Steps of a run
 
-pub run-none : (k : Clocks) (p : Player) (ls : List (List ℕ)) (free : ℕ) → ls ≡ [] → run k p (linesLeft p ls) free ≡ stopped p 0
+pub run-none : (t : Output) (k : Clocks) (p : Player) (ls : List (List ℕ)) (free : ℕ) → ls ≡ [] → run t k p (linesLeft p ls) free ≡ stopped p 0
 unfolding run
-run-none k p ls free e = ap (λ (l : List (List ℕ)). run k p (linesLeft p l) free) e ∙ none (1000000 - p .lines)
+run-none t k p ls free e = ap (λ (l : List (List ℕ)). run t k p (linesLeft p l) free) e ∙ none (1000000 - p .lines)
   where
-    none : (n : ℕ) → run k p (take n []) free ≡ stopped p 0
+    none : (n : ℕ) → run t k p (take n []) free ≡ stopped p 0
     none zero = refl
     none (suc n) = refl
 
-pub run-over : (k : Clocks) (p : Player) (ls : List (List ℕ)) (free : ℕ) → 1000000 ≤ p .lines → run k p (linesLeft p ls) free ≡ stopped p 0
+pub run-over : (t : Output) (k : Clocks) (p : Player) (ls : List (List ℕ)) (free : ℕ) → 1000000 ≤ p .lines → run t k p (linesLeft p ls) free ≡ stopped p 0
 unfolding run
-run-over k p ls free h = ap (λ (n : ℕ). run k p (take n ls) free) (none (p .lines) h)
+run-over t k p ls free h = ap (λ (n : ℕ). run t k p (take n ls) free) (none (p .lines) h)
   where
     none : (n : ℕ) → 1000000 ≤ n → 1000000 - n ≡ 0
     none n h = omega arith
 
-pub run-full : (k : Clocks) (p : Player) (l : List ℕ) (ls rest : List (List ℕ)) (free : ℕ) → ls ≡ l ∷ rest → p .lines < 1000000 → free < 80 → run k p (linesLeft p ls) free ≡ stopped p 6
-run-full k p l ls rest free e below h =
-    ap (λ (x : List (List ℕ)). run k p (linesLeft p x) free) e ∙ ap (λ (x : List (List ℕ)). run k p x free) (take-next (p .lines) l rest below) ∙ run-no-room k p l (take (1000000 - (p .lines + 1)) rest) free h
+pub run-full : (t : Output) (k : Clocks) (p : Player) (l : List ℕ) (ls rest : List (List ℕ)) (free : ℕ) → ls ≡ l ∷ rest → p .lines < 1000000 → free < 80 → run t k p (linesLeft p ls) free ≡ stopped p 6
+run-full t k p l ls rest free e below h =
+    ap (λ (x : List (List ℕ)). run t k p (linesLeft p x) free) e ∙ ap (λ (x : List (List ℕ)). run t k p x free) (take-next (p .lines) l rest below) ∙ run-no-room t k p l (take (1000000 - (p .lines + 1)) rest) free h
 
-pub run-more : (k : Clocks) (p : Player) (l : List ℕ) (ls rest : List (List ℕ)) (free : ℕ) → ls ≡ l ∷ rest → p .lines < 1000000 → 80 ≤ free
-    → run k p (linesLeft p ls) free ≡ prefix (lineText k p l) (suc (length l)) (run k (nextPlayer k p l) (linesLeft (nextPlayer k p l) rest) (free - length (lineText k p l)))
-run-more k p l ls rest free e below h =
-    ap (λ (x : List (List ℕ)). run k p (linesLeft p x) free) e ∙ ap (λ (x : List (List ℕ)). run k p x free) (take-next (p .lines) l rest below) ∙ run-one-more k p l (take (1000000 - (p .lines + 1)) rest) free h
+pub run-more : (t : Output) (k : Clocks) (p : Player) (l : List ℕ) (ls rest : List (List ℕ)) (free : ℕ) → ls ≡ l ∷ rest → p .lines < 1000000 → 80 ≤ free
+    → run t k p (linesLeft p ls) free ≡ prefix (lineText t k p l) (suc (length l)) (run t k (nextPlayer k p l) (linesLeft (nextPlayer k p l) rest) (free - length (lineText t k p l)))
+run-more t k p l ls rest free e below h =
+    ap (λ (x : List (List ℕ)). run t k p (linesLeft p x) free) e ∙ ap (λ (x : List (List ℕ)). run t k p x free) (take-next (p .lines) l rest below) ∙ run-one-more t k p l (take (1000000 - (p .lines + 1)) rest) free h
 
 -- ## The loop's invariant: what is written is what the run has given so far, and the run goes on from here
 
-pub record Going (k : Clocks) (ended : Bool) (s before : List ℕ) (p₀ : Player) (out : List ℕ) (p : Player) (at written : ℕ) : Type 0 where
+pub record Going (t : Output) (k : Clocks) (ended : Bool) (s before : List ℕ) (p₀ : Player) (out : List ℕ) (p : Player) (at written : ℕ) : Type 0 where
   pub at-le : at ≤ length s
   pub written-le : written ≤ length before
   pub long : length out ≡ length before
   pub rest : drop written out ≡ drop written before
   pub spent : ℕ
   pub at-is : at ≡ min (length s) spent
-  pub goes : run k p₀ (linesLeft p₀ (linesIn ended s)) (length before) ≡ prefix (take written out) spent (run k p (linesLeft p (linesIn ended (drop at s))) (length before - written))
+  pub goes : run t k p₀ (linesLeft p₀ (linesIn ended s)) (length before) ≡ prefix (take written out) spent (run t k p (linesLeft p (linesIn ended (drop at s))) (length before - written))
 
 -- the same of an equal buffer
-pub going-as : {k : Clocks} {ended : Bool} {s before : List ℕ} {p₀ : Player} {out out′ : List ℕ} {p : Player} {at written : ℕ} → out ≡ out′
-    → Going k ended s before p₀ out p at written → Going k ended s before p₀ out′ p at written
-going-as {k} {ended} {s} {before} {p₀} {out} {out′} {p} {at} {written} e g = subst (λ (l : List ℕ). Going k ended s before p₀ l p at written) e g
+pub going-as : {t : Output} {k : Clocks} {ended : Bool} {s before : List ℕ} {p₀ : Player} {out out′ : List ℕ} {p : Player} {at written : ℕ} → out ≡ out′
+    → Going t k ended s before p₀ out p at written → Going t k ended s before p₀ out′ p at written
+going-as {t} {k} {ended} {s} {before} {p₀} {out} {out′} {p} {at} {written} e g = subst (λ (l : List ℕ). Going t k ended s before p₀ l p at written) e g
 
-pub going : (k : Clocks) (ended : Bool) (s before : List ℕ) (p : Player) → Going k ended s before p before p 0 0
-going k ended s before p = record {
+pub going : (t : Output) (k : Clocks) (ended : Bool) (s before : List ℕ) (p : Player) → Going t k ended s before p before p 0 0
+going t k ended s before p = record {
   at-le = omega arith;
   written-le = omega arith;
   long = refl;
   rest = refl;
   spent = 0;
   at-is = omega arith;
-  goes = ap (λ (n : ℕ). run k p (linesLeft p (linesIn ended s)) n) (sym (sub-zero (length before))) ∙ zero-used (run k p (linesLeft p (linesIn ended s)) (length before - 0));
+  goes = ap (λ (n : ℕ). run t k p (linesLeft p (linesIn ended s)) n) (sym (sub-zero (length before))) ∙ zero-used (run t k p (linesLeft p (linesIn ended s)) (length before - 0));
 }
   where
     zero-used : (r : Run) → r ≡ prefix [] 0 r
@@ -94,15 +96,15 @@ going k ended s before p = record {
         none : (n : ℕ) → n ≡ 0 + n
         none n = omega arith
 
-module _ {k : Clocks} {ended : Bool} {s before : List ℕ} {p₀ : Player} {out : List ℕ} {p : Player} {at written : ℕ} (g : Going k ended s before p₀ out p at written) where
+module _ {t : Output} {k : Clocks} {ended : Bool} {s before : List ℕ} {p₀ : Player} {out : List ℕ} {p : Player} {at written : ℕ} (g : Going t k ended s before p₀ out p at written) where
   abbrev whole : Run
-  whole = run k p₀ (linesLeft p₀ (linesIn ended s)) (length before)
+  whole = run t k p₀ (linesLeft p₀ (linesIn ended s)) (length before)
 
   taken-long : length (take written out) ≡ written
   taken-long = length-take-le written out (let l = g .long in let w = g .written-le in omega arith)
 
   -- the end, with the refusal that the run ends with
-  module _ (n : ℕ) (e : run k p (linesLeft p (linesIn ended (drop at s))) (length before - written) ≡ stopped p n) where
+  module _ (n : ℕ) (e : run t k p (linesLeft p (linesIn ended (drop at s))) (length before - written) ≡ stopped p n) where
     ends : whole ≡ record { bytes = take written out; used = g .spent; player = p; refusal = n }
     ends =
         g .goes
@@ -123,7 +125,7 @@ module _ {k : Clocks} {ended : Bool} {s before : List ℕ} {p₀ : Player} {out 
         ∙ ap (λ (l : List ℕ). take written out ++ l) (sym (g .rest))
         ∙ take-append-drop written out)
 
-  pub finish : (n : ℕ) → run k p (linesLeft p (linesIn ended (drop at s))) (length before - written) ≡ stopped p n
+  pub finish : (n : ℕ) → run t k p (linesLeft p (linesIn ended (drop at s))) (length before - written) ≡ stopped p n
       → (record { used = at; written = written; refusal = n; player = p } ≡ progressOf (length s) whole) × (out ≡ over whole before)
   finish n e = (done-is n e, done-over n e)
 
@@ -139,11 +141,11 @@ module _ {k : Clocks} {ended : Bool} {s before : List ℕ} {p₀ : Player} {out 
     pub lines-are : linesIn ended (drop at s) ≡ line ∷ linesIn ended (drop onward s)
     lines-are = line-next ended s at end some end-is end-le closed
 
-    pub no-room : length before - written < 80 → run k p (linesLeft p (linesIn ended (drop at s))) (length before - written) ≡ stopped p 6
-    no-room h = run-full k p line (linesIn ended (drop at s)) (linesIn ended (drop onward s)) (length before - written) lines-are below h
+    pub no-room : length before - written < 80 → run t k p (linesLeft p (linesIn ended (drop at s))) (length before - written) ≡ stopped p 6
+    no-room h = run-full t k p line (linesIn ended (drop at s)) (linesIn ended (drop onward s)) (length before - written) lines-are below h
 
     abbrev pub text : List ℕ
-    text = lineText k p line
+    text = lineText t k p line
 
     module _ (room : 80 ≤ length before - written) (out′ : List ℕ) (r : ℕ) (r-is : r ≡ length text) (long′ : length out′ ≡ length out)
         (put : out′ ≡ take written out ++ (text ++ drop r (drop written out))) where
@@ -173,9 +175,9 @@ module _ {k : Clocks} {ended : Bool} {s before : List ℕ} {p₀ : Player} {out 
           omega (arith, head-long, g .long)
 
       abbrev next : Run
-      next = run k (nextPlayer k p line) (linesLeft (nextPlayer k p line) (linesIn ended (drop onward s))) (length before - written - length text)
+      next = run t k (nextPlayer k p line) (linesLeft (nextPlayer k p line) (linesIn ended (drop onward s))) (length before - written - length text)
 
-      pub turn : Going k ended s before p₀ out′ (nextPlayer k p line) onward (written + r)
+      pub turn : Going t k ended s before p₀ out′ (nextPlayer k p line) onward (written + r)
       turn = record {
         at-le = omega arith;
         written-le = within;
@@ -185,10 +187,10 @@ module _ {k : Clocks} {ended : Bool} {s before : List ℕ} {p₀ : Player} {out 
         at-is = let l = line-long in let a = g .at-is in omega arith;
         goes =
             g .goes
-            ∙ ap (prefix (take written out) (g .spent)) (run-more k p line (linesIn ended (drop at s)) (linesIn ended (drop onward s)) (length before - written) lines-are below room)
+            ∙ ap (prefix (take written out) (g .spent)) (run-more t k p line (linesIn ended (drop at s)) (linesIn ended (drop onward s)) (length before - written) lines-are below room)
             ∙ prefix-twice (take written out) text (g .spent) (suc (length line)) next
             ∙ ap (λ (l : List ℕ). prefix l (g .spent + suc (length line)) next) (sym taken)
-            ∙ ap (λ (n : ℕ). prefix (take (written + r) out′) (g .spent + suc (length line)) (run k (nextPlayer k p line) (linesLeft (nextPlayer k p line) (linesIn ended (drop onward s))) n)) free-is;
+            ∙ ap (λ (n : ℕ). prefix (take (written + r) out′) (g .spent + suc (length line)) (run t k (nextPlayer k p line) (linesLeft (nextPlayer k p line) (linesIn ended (drop onward s))) n)) free-is;
       }
         where
           free-is : length before - written - length text ≡ length before - (written + r)
@@ -196,14 +198,20 @@ module _ {k : Clocks} {ended : Bool} {s before : List ℕ} {p₀ : Player} {out 
 
     -- the same from an answer, its line put into the part that starts at the first free byte
     module _ (room : 80 ≤ length before - written) (a : Answer) (a-is : a ≡ answerOf k (p .host) line) (inner : List ℕ) (r at′ : ℕ)
-        (put : Put (drop written out) inner 0 r (textOf (p .lines + 1) a)) (inner-long : length inner ≡ length (drop written out)) (at′-is : at′ ≡ onward) where
-      r-is : r ≡ length text
+        (w : Window) (w-is : w ≡ answered p a .window)
+        (put : Put (drop written out) inner 0 r (textBy t (p .lines + 1) w a)) (inner-long : length inner ≡ length (drop written out)) (at′-is : at′ ≡ onward) where
+      text-is : textBy t (p .lines + 1) w a ≡ text
       unfolding lineText
-      r-is = let n = put .next in let e : length (textOf (p .lines + 1) a) ≡ length text = ap (λ (x : Answer). length (textOf (p .lines + 1) x)) a-is in omega arith
+      text-is = ap (λ (x : Window). textBy t (p .lines + 1) x a) w-is ∙ ap (λ (x : Answer). textBy t (p .lines + 1) (answered p x .window) x) a-is
+
+      next-is : record { lines = p .lines + 1; window = w; host = a .host } ≡ nextPlayer k p line
+      next-is = ap (λ (x : Window). record { lines = p .lines + 1; window = x; host = a .host }) w-is ∙ ap (answered p) a-is
+
+      r-is : r ≡ length text
+      r-is = let n = put .next in let e : length (textBy t (p .lines + 1) w a) ≡ length text = ap length text-is in omega arith
 
       put-is : take written out ++ inner ≡ take written out ++ (text ++ drop r (drop written out))
-      unfolding lineText
-      put-is = ap (λ (l : List ℕ). take written out ++ l) (put .is ∙ ap (λ (x : Answer). textOf (p .lines + 1) x ++ drop r (drop written out)) a-is)
+      put-is = ap (λ (l : List ℕ). take written out ++ l) (put .is ∙ ap (λ (l : List ℕ). l ++ drop r (drop written out)) text-is)
 
       long-is : length (take written out ++ inner) ≡ length out
       long-is =
@@ -211,8 +219,8 @@ module _ {k : Clocks} {ended : Bool} {s before : List ℕ} {p₀ : Player} {out 
           let d : length (drop written out) ≡ length out - written = length-drop written out in
           omega (arith, taken-long, g .long, g .written-le)
 
-      pub again : Going k ended s before p₀ (take written out ++ inner) (record { lines = p .lines + 1; host = a .host }) at′ (written + r)
+      pub again : Going t k ended s before p₀ (take written out ++ inner) (record { lines = p .lines + 1; window = w; host = a .host }) at′ (written + r)
       again =
-          subst (λ (x : Answer). Going k ended s before p₀ (take written out ++ inner) (record { lines = p .lines + 1; host = x .host }) at′ (written + r)) (sym a-is)
-          (subst (λ (n : ℕ). Going k ended s before p₀ (take written out ++ inner) (nextPlayer k p line) n (written + r)) (sym at′-is)
+          subst (λ (x : Player). Going t k ended s before p₀ (take written out ++ inner) x at′ (written + r)) (sym next-is)
+          (subst (λ (n : ℕ). Going t k ended s before p₀ (take written out ++ inner) (nextPlayer k p line) n (written + r)) (sym at′-is)
           (turn room (take written out ++ inner) r r-is long-is put-is))

@@ -4,6 +4,7 @@ use mathlib.Core.List.{List, [], _∷_, _++_}
 use Prim.Native.Nat.{ℕ, suc, _+_, _-_, _<_}
 use lib.ListN.{length}
 use Rattle.clocks.specs.declared.Clocks.{Clocks}
+use Rattle.player.specs.declared.Output.{Output}
 use Rattle.player.specs.Trace.{Run, run}
 
 -- the bytes of closed lines, their newlines counted
@@ -16,8 +17,8 @@ abbrev pub runThen : Run → Run → Run
 runThen r q = record { bytes = r .bytes ++ q .bytes; used = r .used + q .used; player = q .player; refusal = q .refusal }
 
 -- a run goes on where the one before it ended
-abbrev pub onward : Clocks → ℕ → List (List ℕ) → Run → Run
-onward k free ys r = runThen r (run k (r .player) ys (free - length (r .bytes)))
+abbrev pub onward : Output → Clocks → ℕ → List (List ℕ) → Run → Run
+onward t k free ys r = runThen r (run t k (r .player) ys (free - length (r .bytes)))
 
 -- the same lines, or two first lines that are too long and the same lines after them
 pub data Alike : List (List ℕ) → List (List ℕ) → Type 0 where

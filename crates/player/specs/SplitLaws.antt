@@ -13,6 +13,7 @@ use lib.ListN.{length, take, drop, length-append}
 use lib.Seq.{length-take-le, drop-append-add}
 use borrow.Author.Tests.{lt-ltb}
 use Rattle.clocks.specs.declared.Clocks.{Clocks}
+use Rattle.player.specs.declared.Output.{Output}
 use Rattle.player.specs.declared.Parsed.the-variants.{Malformed}
 use Rattle.player.specs.declared.Player.{Player}
 use Rattle.player.specs.declared.Host.{Host}
@@ -20,8 +21,8 @@ use Rattle.player.specs.declared.Answer.{Answer}
 use Rattle.player.specs.Lines.{unclosed, linesFrom, linesIn, leftOf}
 use Rattle.player.specs.Reading.{callOf}
 use Rattle.player.specs.Calls.{parsedOf, answerOf}
-use Rattle.player.specs.Answers.{textOf}
-use Rattle.player.specs.Trace.{Run, stopped, then, lineText, nextPlayer, run}
+use Rattle.player.specs.Answers.{textBy}
+use Rattle.player.specs.Trace.{answered, Run, stopped, then, lineText, nextPlayer, run}
 use Rattle.player.specs.Parts.{spentOn, runThen, onward, Alike, same, long, Same}
 use Rattle.player.specs.NumberLaws.{below-or-not}
 use Rattle.player.specs.TraceLaws.{run-no-lines, run-no-room, run-one-more}
@@ -96,36 +97,36 @@ none-before p r = ap (λ (u : ℕ). record { bytes = r .bytes; used = u; player 
     zero-is n = omega arith
 
 -- lines played in two parts, the first of which had room for all of its own
-pub parts-are-run : (k : Clocks) (p : Player) (xs ys : List (List ℕ)) (free : ℕ) → run k p xs free .refusal ≡ 0
-    → run k p (xs ++ ys) free ≡ onward k free ys (run k p xs free)
-parts-are-run k p [] ys free e =
-    ap (run k p ys) (sym (sub-zero free)) ∙ none-before p (run k p ys (free - 0)) ∙ ap (onward k free ys) (sym (run-no-lines k p free))
-parts-are-run k p (l ∷ xs) ys free e =
+pub parts-are-run : (t : Output) (k : Clocks) (p : Player) (xs ys : List (List ℕ)) (free : ℕ) → run t k p xs free .refusal ≡ 0
+    → run t k p (xs ++ ys) free ≡ onward t k free ys (run t k p xs free)
+parts-are-run t k p [] ys free e =
+    ap (run t k p ys) (sym (sub-zero free)) ∙ none-before p (run t k p ys (free - 0)) ∙ ap (onward t k free ys) (sym (run-no-lines t k p free))
+parts-are-run t k p (l ∷ xs) ys free e =
     ⊎-elim
-    (λ h. absurd (let z : 6 ≡ 0 = sym (ap (λ (r : Run). r .refusal) (run-no-room k p l xs free h)) ∙ e in omega arith))
+    (λ h. absurd (let z : 6 ≡ 0 = sym (ap (λ (r : Run). r .refusal) (run-no-room t k p l xs free h)) ∙ e in omega arith))
     (λ h.
-    let t = lineText k p l in
-    let r = run k (nextPlayer k p l) xs (free - length t) in
-    run-one-more k p l (xs ++ ys) free h
-    ∙ ap (then (length l) t) (parts-are-run k (nextPlayer k p l) xs ys (free - length t) (sym (ap (λ (x : Run). x .refusal) (run-one-more k p l xs free h)) ∙ e))
-    ∙ then-run (length l) t r (run k (r .player) ys (free - length t - length (r .bytes)))
-    ∙ ap (λ (n : ℕ). runThen (then (length l) t r) (run k (r .player) ys n)) (fewer free (length t) (length (r .bytes)) (length (t ++ r .bytes)) (length-append t (r .bytes)))
-    ∙ ap (onward k free ys) (sym (run-one-more k p l xs free h)))
+    let text = lineText t k p l in
+    let r = run t k (nextPlayer k p l) xs (free - length text) in
+    run-one-more t k p l (xs ++ ys) free h
+    ∙ ap (then (length l) text) (parts-are-run t k (nextPlayer k p l) xs ys (free - length text) (sym (ap (λ (x : Run). x .refusal) (run-one-more t k p l xs free h)) ∙ e))
+    ∙ then-run (length l) text r (run t k (r .player) ys (free - length text - length (r .bytes)))
+    ∙ ap (λ (n : ℕ). runThen (then (length l) text r) (run t k (r .player) ys n)) (fewer free (length text) (length (r .bytes)) (length (text ++ r .bytes)) (length-append text (r .bytes)))
+    ∙ ap (onward t k free ys) (sym (run-one-more t k p l xs free h)))
     (below-or-not free 80)
   where
     fewer : (f a b c : ℕ) → c ≡ a + b → f - a - b ≡ f - c
     fewer f a b c h = omega arith
 
 -- a run that had room for all used them all
-pub used-is-spent : (k : Clocks) (p : Player) (ls : List (List ℕ)) (free : ℕ) → run k p ls free .refusal ≡ 0 → run k p ls free .used ≡ spentOn ls
+pub used-is-spent : (t : Output) (k : Clocks) (p : Player) (ls : List (List ℕ)) (free : ℕ) → run t k p ls free .refusal ≡ 0 → run t k p ls free .used ≡ spentOn ls
 unfolding spentOn
-used-is-spent k p [] free e = ap (λ (r : Run). r .used) (run-no-lines k p free)
-used-is-spent k p (l ∷ ls) free e =
+used-is-spent t k p [] free e = ap (λ (r : Run). r .used) (run-no-lines t k p free)
+used-is-spent t k p (l ∷ ls) free e =
     ⊎-elim
-    (λ h. absurd (let z : 6 ≡ 0 = sym (ap (λ (r : Run). r .refusal) (run-no-room k p l ls free h)) ∙ e in omega arith))
+    (λ h. absurd (let z : 6 ≡ 0 = sym (ap (λ (r : Run). r .refusal) (run-no-room t k p l ls free h)) ∙ e in omega arith))
     (λ h.
-    ap (λ (r : Run). r .used) (run-one-more k p l ls free h)
-    ∙ ap (λ (n : ℕ). suc (length l) + n) (used-is-spent k (nextPlayer k p l) ls (free - length (lineText k p l)) (sym (ap (λ (r : Run). r .refusal) (run-one-more k p l ls free h)) ∙ e)))
+    ap (λ (r : Run). r .used) (run-one-more t k p l ls free h)
+    ∙ ap (λ (n : ℕ). suc (length l) + n) (used-is-spent t k (nextPlayer k p l) ls (free - length (lineText t k p l)) (sym (ap (λ (r : Run). r .refusal) (run-one-more t k p l ls free h)) ∙ e)))
     (below-or-not free 80)
 
 -- ## Long lines
@@ -164,31 +165,33 @@ cut-lines ended l m (z ∷ b) h k = by (eqb z 10) (cut-lines ended (l ++ (z ∷ 
     by false more = more
 
 -- a line and the lines after it, by the line's answer
-abbrev answered : Clocks → Player → List (List ℕ) → ℕ → ℕ → Answer → Run
-answered k p ls free n a = then n (textOf (p .lines + 1) a) (run k (record { lines = p .lines + 1; host = a .host }) ls (free - length (textOf (p .lines + 1) a)))
+abbrev onFrom : Output → Clocks → Player → List (List ℕ) → ℕ → ℕ → Answer → Run
+onFrom t k p ls free n a =
+    let text = textBy t (p .lines + 1) (answered p a .window) a in
+    then n text (run t k (answered p a) ls (free - length text))
 
-alike-run : (k : Clocks) (p : Player) {xs ys : List (List ℕ)} (free : ℕ) → Alike xs ys → Same (run k p xs free) (run k p ys free)
+alike-run : (t : Output) (k : Clocks) (p : Player) {xs ys : List (List ℕ)} (free : ℕ) → Alike xs ys → Same (run t k p xs free) (run t k p ys free)
 unfolding lineText
-alike-run k p free same = record { bytes = refl; player = refl; refusal = refl }
-alike-run k p free (long {l} {m} {ls} a b) = ⊎-elim no-room room (below-or-not free 80)
+alike-run t k p free same = record { bytes = refl; player = refl; refusal = refl }
+alike-run t k p free (long {l} {m} {ls} a b) = ⊎-elim no-room room (below-or-not free 80)
   where
-    alike : {A : Type 0} (f : Run → A) → free < 80 → f (run k p (l ∷ ls) free) ≡ f (run k p (m ∷ ls) free)
-    alike f h = ap f (run-no-room k p l ls free h) ∙ sym (ap f (run-no-room k p m ls free h))
+    alike : {A : Type 0} (f : Run → A) → free < 80 → f (run t k p (l ∷ ls) free) ≡ f (run t k p (m ∷ ls) free)
+    alike f h = ap f (run-no-room t k p l ls free h) ∙ sym (ap f (run-no-room t k p m ls free h))
 
-    no-room : free < 80 → Same (run k p (l ∷ ls) free) (run k p (m ∷ ls) free)
+    no-room : free < 80 → Same (run t k p (l ∷ ls) free) (run t k p (m ∷ ls) free)
     no-room h = record { bytes = alike (λ r. r .bytes) h; player = alike (λ r. r .player) h; refusal = alike (λ r. r .refusal) h }
 
-    room : 80 ≤ free → Same (run k p (l ∷ ls) free) (run k p (m ∷ ls) free)
+    room : 80 ≤ free → Same (run t k p (l ∷ ls) free) (run t k p (m ∷ ls) free)
     room h =
         let e = long-are-alike k (p .host) l m a b in
         record {
-          bytes = ap (λ (r : Run). r .bytes) (run-one-more k p l ls free h) ∙ ap (λ (x : Answer). answered k p ls free 0 x .bytes) e ∙ sym (ap (λ (r : Run). r .bytes) (run-one-more k p m ls free h));
-          player = ap (λ (r : Run). r .player) (run-one-more k p l ls free h) ∙ ap (λ (x : Answer). answered k p ls free 0 x .player) e ∙ sym (ap (λ (r : Run). r .player) (run-one-more k p m ls free h));
-          refusal = ap (λ (r : Run). r .refusal) (run-one-more k p l ls free h) ∙ ap (λ (x : Answer). answered k p ls free 0 x .refusal) e ∙ sym (ap (λ (r : Run). r .refusal) (run-one-more k p m ls free h));
+          bytes = ap (λ (r : Run). r .bytes) (run-one-more t k p l ls free h) ∙ ap (λ (x : Answer). onFrom t k p ls free 0 x .bytes) e ∙ sym (ap (λ (r : Run). r .bytes) (run-one-more t k p m ls free h));
+          player = ap (λ (r : Run). r .player) (run-one-more t k p l ls free h) ∙ ap (λ (x : Answer). onFrom t k p ls free 0 x .player) e ∙ sym (ap (λ (r : Run). r .player) (run-one-more t k p m ls free h));
+          refusal = ap (λ (r : Run). r .refusal) (run-one-more t k p l ls free h) ∙ ap (λ (x : Answer). onFrom t k p ls free 0 x .refusal) e ∙ sym (ap (λ (r : Run). r .refusal) (run-one-more t k p m ls free h));
         }
 
 -- a line that was begun may be cut to its first 65 bytes
-pub cut-is-alike : (k : Clocks) (p : Player) (ended : Bool) (begun b : List ℕ) (n free : ℕ) → 65 ≤ length begun
-    → Same (run k p (take n (linesFrom ended begun b)) free) (run k p (take n (linesFrom ended (take 65 begun) b)) free)
-cut-is-alike k p ended begun b n free h =
-    alike-run k p free (take-alike n (cut-lines ended begun (take 65 begun) b (omega arith) (let e : length (take 65 begun) ≡ 65 = length-take-le 65 begun h in omega arith)))
+pub cut-is-alike : (t : Output) (k : Clocks) (p : Player) (ended : Bool) (begun b : List ℕ) (n free : ℕ) → 65 ≤ length begun
+    → Same (run t k p (take n (linesFrom ended begun b)) free) (run t k p (take n (linesFrom ended (take 65 begun) b)) free)
+cut-is-alike t k p ended begun b n free h =
+    alike-run t k p free (take-alike n (cut-lines ended begun (take 65 begun) b (omega arith) (let e : length (take 65 begun) ≡ 65 = length-take-le 65 begun h in omega arith)))

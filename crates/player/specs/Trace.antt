@@ -9,12 +9,15 @@ use Rattle.clocks.specs.Clocks.{defaultFrequencies, newClocks}
 use Rattle.iic.specs.State.{defaultIic}
 use Rattle.player.specs.declared.Last.the-variants.{First}
 use Rattle.player.specs.declared.Host.{Host}
+use Rattle.player.specs.declared.Answer.{Answer}
+use Rattle.player.specs.declared.Output.{Output}
+use Rattle.window.specs.Window.{emptyWindow}
 use Rattle.player.specs.declared.Player.{Player}
 use Rattle.player.specs.declared.Progress.{Progress}
 use Rattle.player.specs.declared.Summary.{Summary}
 use Rattle.player.specs.Lines.{linesIn}
 use Rattle.player.specs.Calls.{answerOf}
-use Rattle.player.specs.Answers.{textOf}
+use Rattle.player.specs.Answers.{seenBy, textBy}
 
 -- the clock starts at time 0 with `Frequencies::default`
 unfoldable pub traceClocks : Clocks
@@ -24,7 +27,7 @@ abbrev pub freshHost : Host
 freshHost = record { last = First; state = defaultIic }
 
 unfoldable pub freshPlayer : Player
-freshPlayer = record { lines = 0; host = freshHost }
+freshPlayer = record { lines = 0; window = emptyWindow; host = freshHost }
 
 -- after 1,000,000 lines no more is read
 abbrev pub linesLeft : Player → List (List ℕ) → List (List ℕ)
@@ -40,33 +43,37 @@ pub record Run : Type 0 where
 abbrev pub stopped : Player → ℕ → Run
 stopped p n = record { bytes = []; used = 0; player = p; refusal = n }
 
--- a line of that length with its answer's text, and the run after it
+-- a line of that length with its text, and the run after it
 abbrev pub then : ℕ → List ℕ → Run → Run
 then n text r = record { bytes = text ++ r .bytes; used = suc n + r .used; player = r .player; refusal = r .refusal }
 
--- the answer line of the next line
-unfoldable pub lineText : Clocks → Player → List ℕ → List ℕ
-lineText k p line = textOf (p .lines + 1) (answerOf k (p .host) line)
+-- a line with its answer: line numbers count every line from 1, and the window takes its status before and after
+abbrev pub answered : Player → Answer → Player
+answered p a = record { lines = p .lines + 1; window = seenBy (p .window) (p .host .state .registers .status) a; host = a .host }
 
--- the player after it: line numbers count every line from 1
+-- the player after the next line
 abbrev pub nextPlayer : Clocks → Player → List ℕ → Player
-nextPlayer k p line = record { lines = p .lines + 1; host = answerOf k (p .host) line .host }
+nextPlayer k p line = answered p (answerOf k (p .host) line)
+
+-- what is written for it
+unfoldable pub lineText : Output → Clocks → Player → List ℕ → List ℕ
+lineText t k p line = textBy t (p .lines + 1) (nextPlayer k p line .window) (answerOf k (p .host) line)
 
 -- 6 where fewer than 80 bytes are free before a line
-unfoldable pub run : Clocks → Player → List (List ℕ) → ℕ → Run
-run k p [] free = stopped p 0
-run k p (l ∷ ls) free =
-    cond (ltb free 80) (stopped p 6) (then (length l) (lineText k p l) (run k (nextPlayer k p l) ls (free - length (lineText k p l))))
+unfoldable pub run : Output → Clocks → Player → List (List ℕ) → ℕ → Run
+run t k p [] free = stopped p 0
+run t k p (l ∷ ls) free =
+    cond (ltb free 80) (stopped p 6) (then (length l) (lineText t k p l) (run t k (nextPlayer k p l) ls (free - length (lineText t k p l))))
 
 -- a part of a trace, from the player that the part before left; the trace ends with it or goes on
-abbrev pub partOf : Player → Bool → List ℕ → ℕ → Run
-partOf p ended part free = run traceClocks p (linesLeft p (linesIn ended part)) free
+abbrev pub partOf : Output → Player → Bool → List ℕ → ℕ → Run
+partOf t p ended part free = run t traceClocks p (linesLeft p (linesIn ended part)) free
 
 -- a whole trace
-unfoldable pub runOf : List ℕ → ℕ → Run
-runOf trace free = partOf freshPlayer true trace free
+unfoldable pub runOf : Output → List ℕ → ℕ → Run
+runOf t trace free = partOf t freshPlayer true trace free
 
--- the buffer after it: answer lines from its first byte on, the rest unchanged
+-- the buffer after it: the lines' text from its first byte on, the rest unchanged
 abbrev pub over : Run → List ℕ → List ℕ
 over r before = r .bytes ++ drop (length (r .bytes)) before
 

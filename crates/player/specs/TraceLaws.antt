@@ -9,6 +9,7 @@ use lib.ListN.{length, drop, length-append, length-drop}
 use borrow.Author.Tests.{lt-ltb, le-ltb}
 use Rattle.time.specs.Clock.{zeroIn}
 use Rattle.clocks.specs.declared.Clocks.{Clocks}
+use Rattle.player.specs.declared.Output.{Output}
 use Rattle.clocks.specs.Clocks.{newClocks, clockSet, hasZero}
 use Rattle.player.specs.declared.Player.{Player}
 use Rattle.player.specs.Trace.{Run, stopped, then, lineText, nextPlayer, run, over, traceClocks}
@@ -18,18 +19,18 @@ pub trace-free : hasZero traceClocks ≡ false
 unfolding traceClocks newClocks clockSet hasZero zeroIn
 trace-free = refl
 
-pub run-no-lines : (k : Clocks) (p : Player) (free : ℕ) → run k p [] free ≡ stopped p 0
+pub run-no-lines : (t : Output) (k : Clocks) (p : Player) (free : ℕ) → run t k p [] free ≡ stopped p 0
 unfolding run
-run-no-lines k p free = refl
+run-no-lines t k p free = refl
 
-pub run-no-room : (k : Clocks) (p : Player) (l : List ℕ) (ls : List (List ℕ)) (free : ℕ) → free < 80 → run k p (l ∷ ls) free ≡ stopped p 6
+pub run-no-room : (t : Output) (k : Clocks) (p : Player) (l : List ℕ) (ls : List (List ℕ)) (free : ℕ) → free < 80 → run t k p (l ∷ ls) free ≡ stopped p 6
 unfolding run
-run-no-room k p l ls free h = rw (lt-ltb free 80 h)
+run-no-room t k p l ls free h = rw (lt-ltb free 80 h)
 
-pub run-one-more : (k : Clocks) (p : Player) (l : List ℕ) (ls : List (List ℕ)) (free : ℕ) → 80 ≤ free
-    → run k p (l ∷ ls) free ≡ then (length l) (lineText k p l) (run k (nextPlayer k p l) ls (free - length (lineText k p l)))
+pub run-one-more : (t : Output) (k : Clocks) (p : Player) (l : List ℕ) (ls : List (List ℕ)) (free : ℕ) → 80 ≤ free
+    → run t k p (l ∷ ls) free ≡ then (length l) (lineText t k p l) (run t k (nextPlayer k p l) ls (free - length (lineText t k p l)))
 unfolding run
-run-one-more k p l ls free h = rw (le-ltb free 80 h)
+run-one-more t k p l ls free h = rw (le-ltb free 80 h)
 
 -- a run that went into a buffer fits it
 pub over-within : (r : Run) (before after : List ℕ) → after ≡ over r before → length after ≡ length before → length (r .bytes) ≤ length before

@@ -4,8 +4,9 @@ ghost use Prim.Native.Nat.{_+_, _≤_};
 ghost use lib.ListN.{length};
 ghost use Rattle.player.specs.Puts.{Put};
 ghost use Rattle.player.specs.Format.{bitGlyph};
-ghost use Rattle.player.specs.Answers.{valueText, levelsText, answerText, textOf};
+ghost use Rattle.player.specs.Answers.{valueText, levelsText, answerText, textOf, reportText, textBy, seenBy};
 use super::Answer;
+use super::Output;
 use super::Value;
 use super::text::put_byte;
 use super::text::put_decimal;
@@ -14,6 +15,7 @@ use super::text::put_hex;
 use super::text::put_two;
 use iic::Pins;
 use time::Time;
+use window::Window;
 ghost use Rattle.player.specs.declared.Value.the-variants.{Moment};
 
 fn bit_glyph(b: bool) -> u8
@@ -78,9 +80,39 @@ fn write_line(
     put_byte(out, i, b'\n')
 }
 
+// A line's number and a report at the start of the part; the rest of it stays.
+fn write_report(out: &mut [u8], number: u64, report: u64) -> usize
+    requires { ⌜ 80 ≤ length (now out) ⌝ }
+    ensures { λ r. ⌜ Put (now (out .entry)) (now (out .exit)) 0 r (reportText number report) ⌝ }
+{
+    let a = put_decimal(out, 0, number, 20);
+    let b = put_byte(out, a, b'\t');
+    let c = put_decimal(out, b, report, 20);
+    put_byte(out, c, b'\n')
+}
+
 impl Answer {
-    // The answer line of that number, at the start of the part.
-    pub(crate) fn write(self, out: &mut [u8], number: u64) -> usize
+    // The window after the line, by the status before it.
+    pub(crate) fn seen_by(self, window: Window, before: u8) -> Window
+        ensures { λ r. ⌜ r ≡ seenBy window before self ⌝ }
+    {
+        let host = self.host;
+        let state = host.state;
+        window.take(before, state.registers.status)
+    }
+
+    // What is written for the line of that number, at the start of the part.
+    pub(crate) fn write(self, output: Output, window: Window, out: &mut [u8], number: u64) -> usize
+        requires { ⌜ 80 ≤ length (now out) ⌝ }
+        ensures { λ r. ⌜ Put (now (out .entry)) (now (out .exit)) 0 r (textBy output number window self) ⌝ }
+    {
+        match output {
+            Output::Answers => self.write_answer(out, number),
+            Output::Reports => write_report(out, number, window.report()),
+        }
+    }
+
+    fn write_answer(self, out: &mut [u8], number: u64) -> usize
         requires { ⌜ 80 ≤ length (now out) ⌝ }
         ensures { λ r. ⌜ Put (now (out .entry)) (now (out .exit)) 0 r (textOf number self) ⌝ }
     {

@@ -17,6 +17,8 @@ use lines::line_end;
 use lines::past;
 use time::Clock;
 use time::Time;
+use window::Window;
+ghost use Rattle.player.specs.declared.Output.the-variants.{Answers, Reports};
 
 // A call of the peripheral, as a verb with its operands.
 pub enum Verb {
@@ -73,9 +75,16 @@ pub struct Answer {
     pub host: Host,
 }
 
+// What is written for a line: its answer line, or its number and the window's report after it.
+pub enum Output {
+    Answers,
+    Reports,
+}
+
 // The lines played so far, and what they left.
 pub struct Player {
     pub lines: u64,
+    pub window: Window,
     pub host: Host,
 }
 
@@ -131,6 +140,7 @@ impl Player {
     {
         Player {
             lines: 0,
+            window: Window::empty(),
             host: Host {
                 last: Last::First,
                 state: Iic::new(),
@@ -139,10 +149,11 @@ impl Player {
     }
 
     // Plays the lines of a part of a trace while 80 bytes are free. Where the trace goes on, a last line without its newline isn't played.
-    pub fn play_lines(self, part: &[u8], ended: bool, out: &mut [u8]) -> Progress
-        ensures { λ r. ⌜ (r ≡ progressOf (length (now (part .entry))) (partOf self ended (now (part .entry)) (length (now (out .entry))))) × (now (out .exit) ≡ over (partOf self ended (now (part .entry)) (length (now (out .entry)))) (now (out .entry))) ⌝ }
+    pub fn play_lines(self, output: Output, part: &[u8], ended: bool, out: &mut [u8]) -> Progress
+        ensures { λ r. ⌜ (r ≡ progressOf (length (now (part .entry))) (partOf output self ended (now (part .entry)) (length (now (out .entry))))) × (now (out .exit) ≡ over (partOf output self ended (now (part .entry)) (length (now (out .entry)))) (now (out .entry))) ⌝ }
     {
         let mut host = self.host;
+        let mut window = self.window;
         let mut lines = self.lines;
         let mut at = 0usize;
         let mut written = 0usize;
@@ -160,29 +171,38 @@ impl Player {
                     used: at,
                     written,
                     refusal: 6,
-                    player: Player { lines, host },
+                    player: Player {
+                        lines,
+                        window,
+                        host,
+                    },
                 };
             }
             let answer = host.answer(&part[at..end]);
             lines += 1;
+            window = answer.seen_by(window, host.state.registers.status);
             host = answer.host;
-            written += answer.write(&mut out[written..], lines);
+            written += answer.write(output, window, &mut out[written..], lines);
             at = past(end, part.len());
         }
         Progress {
             used: at,
             written,
             refusal: 0,
-            player: Player { lines, host },
+            player: Player {
+                lines,
+                window,
+                host,
+            },
         }
     }
 }
 
 // Plays a whole trace.
-pub fn play(trace: &[u8], out: &mut [u8]) -> Summary
-    ensures { λ r. ⌜ (r ≡ summaryOf (runOf (now (trace .entry)) (length (now (out .entry))))) × (now (out .exit) ≡ over (runOf (now (trace .entry)) (length (now (out .entry)))) (now (out .entry))) ⌝ }
+pub fn play(output: Output, trace: &[u8], out: &mut [u8]) -> Summary
+    ensures { λ r. ⌜ (r ≡ summaryOf (runOf output (now (trace .entry)) (length (now (out .entry))))) × (now (out .exit) ≡ over (runOf output (now (trace .entry)) (length (now (out .entry)))) (now (out .entry))) ⌝ }
 {
-    let done = Player::new().play_lines(trace, true, out);
+    let done = Player::new().play_lines(output, trace, true, out);
     Summary {
         written: done.written,
         lines: done.player.lines,
@@ -193,7 +213,15 @@ pub fn play(trace: &[u8], out: &mut [u8]) -> Summary
 // The same for a Rust host: the bytes written.
 #[no_mangle]
 pub extern "C" fn play_trace(trace: &[u8], out: &mut [u8]) -> usize
-    ensures { λ r. ⌜ (r ≡ summaryOf (runOf (now (trace .entry)) (length (now (out .entry)))) .written) × (now (out .exit) ≡ over (runOf (now (trace .entry)) (length (now (out .entry)))) (now (out .entry))) ⌝ }
+    ensures { λ r. ⌜ (r ≡ summaryOf (runOf Answers (now (trace .entry)) (length (now (out .entry)))) .written) × (now (out .exit) ≡ over (runOf Answers (now (trace .entry)) (length (now (out .entry)))) (now (out .entry))) ⌝ }
 {
-    play(trace, out).written
+    play(Output::Answers, trace, out).written
+}
+
+// The reports of a whole trace, in the same way.
+#[no_mangle]
+pub extern "C" fn busy_trace(trace: &[u8], out: &mut [u8]) -> usize
+    ensures { λ r. ⌜ (r ≡ summaryOf (runOf Reports (now (trace .entry)) (length (now (out .entry)))) .written) × (now (out .exit) ≡ over (runOf Reports (now (trace .entry)) (length (now (out .entry)))) (now (out .entry))) ⌝ }
+{
+    play(Output::Reports, trace, out).written
 }

@@ -5,6 +5,7 @@
 // unmodified sources, and adds the line of the three numbers. Which overflows are 13 the Rust doesn't tell: a comment beside the trace does. The
 // traces of random calls are `make-trace 1 600`, `2 600` and `3 600` of compare/, the hostile one is such a trace with bytes changed, and those of
 // whole transfers are the ones of examples/.
+use player::Output;
 
 fn text(bytes: &[u8]) {
     io::write_all(1, bytes);
@@ -15,8 +16,8 @@ fn number(n: u64) {
 }
 
 // Plays the trace into the buffer and prints what that gives.
-fn show(trace: &[u8], out: &mut [u8]) {
-    let s = player::play(trace, out);
+fn show(wanted: Output, trace: &[u8], out: &mut [u8]) {
+    let s = player::play(wanted, trace, out);
     let written = s.written;
     text(&out[0..written]);
     text(b"= ");
@@ -29,34 +30,40 @@ fn show(trace: &[u8], out: &mut [u8]) {
 }
 
 // The trace of a file.
-fn file(name: &[u8], out: &mut [u8]) {
+fn file(wanted: Output, name: &[u8], out: &mut [u8]) {
     let fd = os::open_read(name);
     let mut trace = io::large_buffer();
     let n = io::read_full(fd, &mut trace);
     libc::close(fd);
     text(name);
     text(b"\n");
-    show(&trace[..n], out);
+    show(wanted, &trace[..n], out);
 }
 
 // With room for every answer.
 fn all(name: &[u8]) {
     let mut out = io::large_buffer();
-    file(name, &mut out);
+    file(Output::Answers, name, &mut out);
 }
 
 // With room for 4096 bytes.
 fn some(name: &[u8]) {
     let mut out = io::buffer();
-    file(name, &mut out);
+    file(Output::Answers, name, &mut out);
 }
 
 // With room for 79 and for 80 bytes.
 fn narrow(name: &[u8]) {
     let mut least = [0u8; 79];
-    file(name, &mut least);
+    file(Output::Answers, name, &mut least);
     let mut enough = [0u8; 80];
-    file(name, &mut enough);
+    file(Output::Answers, name, &mut enough);
+}
+
+// The reports, with room for all.
+fn busy(name: &[u8]) {
+    let mut out = io::large_buffer();
+    file(Output::Reports, name, &mut out);
 }
 
 fn forms() {
@@ -95,8 +102,17 @@ fn transfers() {
     all(b"hostile.trace");
 }
 
+fn reports() {
+    busy(b"empty.trace");
+    busy(b"times.trace");
+    busy(b"malformed.trace");
+    busy(b"master-write.trace");
+    busy(b"random-1.trace");
+}
+
 fn main() {
     forms();
     ends();
     transfers();
+    reports();
 }

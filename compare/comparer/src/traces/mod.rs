@@ -47,6 +47,7 @@ pub fn compare(options: &Options) -> u64 {
     comparison.section("bytes at random", Comparison::noise);
     comparison.section("one byte damaged", Comparison::damage);
     comparison.section("reads of one byte", Comparison::reads);
+    comparison.section("of 15 to 81 lines", Comparison::blocks);
     comparison.section("about a million lines", |c| c.millions(options.quick));
     comparison.section("of 10,000 lines", |c| {
         for _ in 0..options.count.div_ceil(LINES as u64) {
@@ -147,6 +148,18 @@ impl Comparison {
         }
     }
 
+    /// Around the ends of blocks of 16 lines and of windows of 64.
+    fn blocks(&mut self) {
+        for lines in [15, 16, 17, 47, 48, 49, 63, 64, 65, 66, 79, 80, 81] {
+            for _ in 0..20 {
+                let trace = self.trace(lines);
+                self.check(&trace, lines * 80);
+            }
+            let trace = self.trace(lines);
+            self.feed(&trace, Feeding::Whole);
+        }
+    }
+
     /// Around the most lines that are played. The quick run has one line too many, which shows both that a million are
     /// played and that no more are.
     fn millions(&mut self, quick: bool) {
@@ -168,37 +181,47 @@ impl Comparison {
         self.feed(&trace, Feeding::Whole);
     }
 
-    /// `play_trace` against the plain player, in a buffer of that size.
+    /// `play_trace` and `busy_trace` against the plain player, in a buffer of that size.
     fn check(&mut self, trace: &[u8], size: usize) {
         self.played += 1;
-        self.compare("play_trace", trace, size, |trace| players::play_trace(trace, size));
+        self.compare("play_trace", trace, Output::Answers, size, |trace| players::play_trace(trace, size));
+        self.compare("busy_trace", trace, Output::Reports, size, |trace| players::busy_trace(trace, size));
     }
 
     /// The program against the plain player.
     fn feed(&mut self, trace: &[u8], feeding: Feeding) {
         self.fed += 1;
         let program = self.program.clone();
-        self.compare("play", trace, usize::MAX, |trace| program.play(trace, feeding));
+        self.compare("play", trace, Output::Answers, usize::MAX, |trace| program.play(&[], trace, feeding));
+        self.compare("play busy", trace, Output::Reports, usize::MAX, |trace| program.play(&["busy"], trace, feeding));
     }
 
     /// One of the port's players against the plain player, with room for so many bytes.
-    fn compare(&mut self, who: &str, trace: &[u8], room: usize, port: impl Fn(&[u8]) -> Result<Vec<u8>, String>) {
+    fn compare(
+        &mut self,
+        who: &str,
+        trace: &[u8],
+        output: Output,
+        room: usize,
+        port: impl Fn(&[u8]) -> Result<Vec<u8>, String>,
+    ) {
         let ours = port(trace);
-        let plain = plain(&ours, trace, room);
-        self.lines += plain.lines as u64;
-        if ours.as_ref() == Ok(&plain.bytes) || !self.differs(who) {
+        let plain = |ours: &Result<Vec<u8>, String>, trace: &[u8]| output.plain(ours, trace, room);
+        let expected = plain(&ours, trace);
+        self.lines += expected.lines as u64;
+        if ours.as_ref() == Ok(&expected.bytes) || !self.differs(who) {
             return;
         }
         let mut lines: Vec<&[u8]> = trace.split_inclusive(|byte| *byte == b'\n').collect();
         shrink::shorten(&mut lines, |lines| {
             let part = lines.concat();
             let ours = port(&part);
-            ours != Ok(plain(&ours, &part, room).bytes)
+            ours != Ok(plain(&ours, &part).bytes)
         });
         let part = lines.concat();
         let ours = port(&part);
         println!("  on {}", short(&part));
-        print_parting(&plain(&ours, &part, room).bytes, ("port", ours.as_ref()));
+        print_parting(&plain(&ours, &part).bytes, ("port", ours.as_ref()));
     }
 
     /// Counts a difference, and tells whether it is one of those that are shown.
@@ -212,9 +235,21 @@ impl Comparison {
     }
 }
 
-/// What the plain player makes of a trace, its overflows numbered as the port's answers have them.
-fn plain(ours: &Result<Vec<u8>, String>, trace: &[u8], room: usize) -> Played {
-    plain_player::play_like(ours.as_deref().unwrap_or_default(), trace, room)
+/// What is written for a line.
+#[derive(Clone, Copy)]
+enum Output {
+    Answers,
+    Reports,
+}
+
+impl Output {
+    /// What the plain player makes of a trace, its overflows numbered as the port's answers have them.
+    fn plain(self, ours: &Result<Vec<u8>, String>, trace: &[u8], room: usize) -> Played {
+        match self {
+            Output::Answers => plain_player::play_like(ours.as_deref().unwrap_or_default(), trace, room),
+            Output::Reports => plain_player::busy(trace, room),
+        }
+    }
 }
 
 /// The plain player's answer lines and another's, from the first line that isn't the same.

@@ -13,8 +13,17 @@ const UNTOUCHED: u8 = 0xa5;
 
 /// What `play_trace` writes into a buffer of that size; an error if it alters a byte behind that.
 pub fn play_trace(trace: &[u8], size: usize) -> Result<Vec<u8>, String> {
+    written_by(port::player::play, trace, size)
+}
+
+/// The same of `busy_trace`.
+pub fn busy_trace(trace: &[u8], size: usize) -> Result<Vec<u8>, String> {
+    written_by(port::player::busy, trace, size)
+}
+
+fn written_by(call: fn(&[u8], &mut [u8]) -> usize, trace: &[u8], size: usize) -> Result<Vec<u8>, String> {
     let mut out = vec![UNTOUCHED; size];
-    let written = port::player::play(trace, &mut out);
+    let written = call(trace, &mut out);
     let rest = out.get(written..).ok_or_else(|| format!("{written} bytes written, and there are {size}"))?;
     if let Some(place) = rest.iter().position(|byte| *byte != UNTOUCHED) {
         return Err(format!("{written} bytes written, yet byte {} has changed", written + place));
@@ -49,21 +58,21 @@ impl Program {
     }
 
     /// What the program writes; an error if it ends badly or says anything on standard error.
-    pub fn play(&self, trace: &[u8], feeding: Feeding) -> Result<Vec<u8>, String> {
+    pub fn play(&self, words: &[&str], trace: &[u8], feeding: Feeding) -> Result<Vec<u8>, String> {
         let said = match feeding {
-            Feeding::Whole => self.piped(trace, trace.len().max(1)),
-            Feeding::Bytes => self.piped(trace, 1),
-            Feeding::Pieces(most) => self.by_datagrams(trace, most),
+            Feeding::Whole => self.piped(words, trace, trace.len().max(1)),
+            Feeding::Bytes => self.piped(words, trace, 1),
+            Feeding::Pieces(most) => self.by_datagrams(words, trace, most),
         };
         said.map_err(|reason| format!("{}: {reason}", self.path.display()))
     }
 
-    fn start(&self, input: Stdio) -> io::Result<Child> {
-        Command::new(&self.path).stdin(input).stdout(Stdio::piped()).stderr(Stdio::piped()).spawn()
+    fn start(&self, words: &[&str], input: Stdio) -> io::Result<Child> {
+        Command::new(&self.path).args(words).stdin(input).stdout(Stdio::piped()).stderr(Stdio::piped()).spawn()
     }
 
-    fn piped(&self, trace: &[u8], most: usize) -> io::Result<Vec<u8>> {
-        let mut child = self.start(Stdio::piped())?;
+    fn piped(&self, words: &[&str], trace: &[u8], most: usize) -> io::Result<Vec<u8>> {
+        let mut child = self.start(words, Stdio::piped())?;
         let input = child.stdin.take();
         thread::scope(|scope| {
             // The program may stop reading; what it wrote is judged, not that.
@@ -74,9 +83,9 @@ impl Program {
 
     /// A read from a socket of datagrams returns one of them, an empty one like the end of a file, which may be looked
     /// at twice.
-    fn by_datagrams(&self, trace: &[u8], most: usize) -> io::Result<Vec<u8>> {
+    fn by_datagrams(&self, words: &[&str], trace: &[u8], most: usize) -> io::Result<Vec<u8>> {
         let (ours, theirs) = UnixDatagram::pair()?;
-        let child = self.start(Stdio::from(OwnedFd::from(theirs)))?;
+        let child = self.start(words, Stdio::from(OwnedFd::from(theirs)))?;
         thread::scope(|scope| {
             scope.spawn(move || {
                 let pieces = trace.chunks(most).chain([&[][..]; 2]);

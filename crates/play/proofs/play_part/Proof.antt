@@ -11,10 +11,10 @@ use Rattle.play.proofs.play_part.Statement.{statement}
 use Rattle.play.proofs.play_part.Tie as tie
 
 abbrev Inv-loop : tie.InvT-loop
-Inv-loop part ended output₀ used₀ last₀ output used last = (used ≤ length part) × (length output ≡ length output₀)
+Inv-loop wanted part ended output₀ used₀ last₀ output used last = (used ≤ length part) × (length output ≡ length output₀)
 
 abbrev μ-loop : tie.MeasureT-loop
-μ-loop part ended output₀ used₀ last₀ output used last = length part - used
+μ-loop wanted part ended output₀ used₀ last₀ output used last = length part - used
 
 -- what a turn uses lies within the part
 within : (u r : ℕ) (l : List ℕ) (m : ℕ) → m ≡ length l - u → u ≤ length l → r ≤ m → u + r ≤ length l
@@ -36,10 +36,10 @@ play-some-requires : tie.Need-play-some-requires Inv-loop μ-loop
 play-some-requires c κs = search needs
 
 add-used : tie.Need-add-used Inv-loop μ-loop
-add-used c = omega (arith, within (c .before .before .before .before .before .before .before .before .loop .used) (c .before .before .before .before .play-some .result .used) (c .before .before .before .before .before .before .before .before .before .before .before .args .part .now) _ (part-long (c .before .before .before .before .before .before .before .before .loop .used) (c .before .before .before .before .before .before .before .before .before .before .before .args .part .now)) (c .before .before .before .before .before .before .before .before .loop .inv .0) (c .before .before .before .before .play-some .ensures))
+add-used c = omega (arith, within (c .before .before .before .before .before .before .before .before .loop .used) (c .before .before .before .before .play-some .result .used) (c .before .before .before .before .before .before .before .before .before .before .before .args .part .now) _ (part-long (c .before .before .before .before .before .before .before .before .loop .used) (c .before .before .before .before .before .before .before .before .before .before .before .args .part .now)) (c .before .before .before .before .before .before .before .before .loop .inv .0) (c .before .before .before .before .play-some .ensures), c .before .before .before .before .before .before .before .before .before .before .before .good)
 
 same-length : tie.Need-same-length Inv-loop μ-loop
-same-length c = c .before .before .before .before .before .before .play-some .kept .1 .1 .1 .0 ∙ c .before .before .before .before .before .before .before .before .before .before .loop .inv .1
+same-length c = c .before .before .before .before .before .before .play-some .kept .1 .1 .1 .1 .0 ∙ c .before .before .before .before .before .before .before .before .before .before .loop .inv .1
 
 returns : tie.Need-returns Inv-loop μ-loop
 returns c = within (c .before .before .before .before .before .before .before .before .before .before .loop .used) (c .before .before .before .before .before .before .play-some .result .used) (c .before .before .before .before .before .before .before .before .before .before .before .before .before .args .part .now) _ (part-long (c .before .before .before .before .before .before .before .before .before .before .loop .used) (c .before .before .before .before .before .before .before .before .before .before .before .before .before .args .part .now)) (c .before .before .before .before .before .before .before .before .before .before .loop .inv .0) (c .before .before .before .before .before .before .play-some .ensures)
@@ -48,7 +48,7 @@ loop-less : tie.Need-loop-less Inv-loop μ-loop
 loop-less c = omega (arith, within (c .before .before .before .before .before .before .before .before .before .before .before .before .loop .used) (c .before .before .before .before .before .before .before .before .play-some .result .used) (c .before .before .before .before .before .before .before .before .before .before .before .before .before .before .before .args .part .now) _ (part-long (c .before .before .before .before .before .before .before .before .before .before .before .before .loop .used) (c .before .before .before .before .before .before .before .before .before .before .before .before .before .before .before .args .part .now)) (c .before .before .before .before .before .before .before .before .before .before .before .before .loop .inv .0) (c .before .before .before .before .before .before .before .before .play-some .ensures), c .if2 .left, c .before .before .before .before .before .before .before .before .before .before .before .loop-test .taken)
 
 loop-again : tie.Need-loop-again Inv-loop μ-loop
-loop-again c = (within (c .before .before .before .before .before .before .before .before .before .before .before .before .loop .used) (c .before .before .before .before .before .before .before .before .play-some .result .used) (c .before .before .before .before .before .before .before .before .before .before .before .before .before .before .before .args .part .now) _ (part-long (c .before .before .before .before .before .before .before .before .before .before .before .before .loop .used) (c .before .before .before .before .before .before .before .before .before .before .before .before .before .before .before .args .part .now)) (c .before .before .before .before .before .before .before .before .before .before .before .before .loop .inv .0) (c .before .before .before .before .before .before .before .before .play-some .ensures), c .before .before .before .before .before .before .before .before .play-some .kept .1 .1 .1 .0 ∙ c .before .before .before .before .before .before .before .before .before .before .before .before .loop .inv .1)
+loop-again c = (within (c .before .before .before .before .before .before .before .before .before .before .before .before .loop .used) (c .before .before .before .before .before .before .before .before .play-some .result .used) (c .before .before .before .before .before .before .before .before .before .before .before .before .before .before .before .args .part .now) _ (part-long (c .before .before .before .before .before .before .before .before .before .before .before .before .loop .used) (c .before .before .before .before .before .before .before .before .before .before .before .before .before .before .before .args .part .now)) (c .before .before .before .before .before .before .before .before .before .before .before .before .loop .inv .0) (c .before .before .before .before .before .before .before .before .play-some .ensures), c .before .before .before .before .before .before .before .before .play-some .kept .1 .1 .1 .1 .0 ∙ c .before .before .before .before .before .before .before .before .before .before .before .before .loop .inv .1)
 
 same-length-2 : tie.Need-same-length-2 Inv-loop μ-loop
 same-length-2 c = c .before .loop .inv .1
@@ -57,7 +57,7 @@ returns-2 : tie.Need-returns-2 Inv-loop μ-loop
 returns-2 c = c .before .loop .inv .0
 
 same-length-3 : tie.Need-same-length-3 Inv-loop μ-loop
-same-length-3 c = c .before .before .before .before .before .before .before .before .play-some .kept .1 .1 .1 .0 ∙ c .before .before .before .before .before .before .before .before .before .before .before .before .loop .inv .1
+same-length-3 c = c .before .before .before .before .before .before .before .before .play-some .kept .1 .1 .1 .1 .0 ∙ c .before .before .before .before .before .before .before .before .before .before .before .before .loop .inv .1
 
 returns-3 : tie.Need-returns-3 Inv-loop μ-loop
 returns-3 c = within (c .before .before .before .before .before .before .before .before .before .before .before .before .loop .used) (c .before .before .before .before .before .before .before .before .play-some .result .used) (c .before .before .before .before .before .before .before .before .before .before .before .before .before .before .before .args .part .now) _ (part-long (c .before .before .before .before .before .before .before .before .before .before .before .before .loop .used) (c .before .before .before .before .before .before .before .before .before .before .before .before .before .before .before .args .part .now)) (c .before .before .before .before .before .before .before .before .before .before .before .before .loop .inv .0) (c .before .before .before .before .before .before .before .before .play-some .ensures)

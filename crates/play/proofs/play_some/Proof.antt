@@ -26,7 +26,7 @@ part-write-out-end c =
     let q = c .before .before .before .play-lines in
     let a = c .before .before .before .before .before .before .before .args in
     let w = ap {B = ℕ} (λ (x : Progress). x .written) (q .ensures .0) in
-    omega (arith, w, over-within (run traceClocks (a .player) (linesLeft (a .player) (linesIn (a .ended) (a .part .now))) (length (a .output .now))) (a .output .now) (q .last .1 .1 .1 .0) (q .ensures .1) (q .kept .1 .1 .1 .0), q .kept .1 .1 .1 .0)
+    omega (arith, w, over-within (run (a .wanted) traceClocks (a .player) (linesLeft (a .player) (linesIn (a .ended) (a .part .now))) (length (a .output .now))) (a .output .now) (q .last .1 .1 .1 .1 .0) (q .ensures .1) (q .kept .1 .1 .1 .1 .0), q .kept .1 .1 .1 .1 .0)
 
 write-out-requires : tie.Need-write-out-requires
 write-out-requires c κs = search needs

@@ -8,10 +8,10 @@ use Rattle.play.proofs.run.Statement.{statement}
 use Rattle.play.proofs.run.Tie as tie
 
 abbrev Inv-loop : tie.InvT-loop
-Inv-loop input₀ output₀ player₀ have₀ turns₀ input output player have turns = (have ≤ 65) × (length input ≡ length input₀) × (length output ≡ length output₀) × (turns < 2 ^ 64)
+Inv-loop wanted input₀ output₀ player₀ have₀ turns₀ input output player have turns = (have ≤ 65) × (length input ≡ length input₀) × (length output ≡ length output₀) × (turns < 2 ^ 64)
 
 abbrev μ-loop : tie.MeasureT-loop
-μ-loop input₀ output₀ player₀ have₀ turns₀ input output player have turns = turns
+μ-loop wanted input₀ output₀ player₀ have₀ turns₀ input output player have turns = turns
 
 new-requires : tie.Need-new-requires Inv-loop μ-loop
 new-requires c κs = search needs

@@ -28,8 +28,8 @@ returns c =
     let n = c .before .before .before .before .new .ensures in
     let a = c .before .before .before .before .before .before .before .args in (
       ap {B = Summary} (λ (x : Progress). record { written = x .written; lines = x .player .lines; refusal = x .refusal })
-          (q .0 ∙ ap (λ (p : Player). progressOf (length (a .trace .now)) (run traceClocks p (linesLeft p (linesIn true (a .trace .now))) (length (a .out .now)))) n),
-      q .1 ∙ ap (λ (p : Player). over (run traceClocks p (linesLeft p (linesIn true (a .trace .now))) (length (a .out .now))) (a .out .now)) n,
+          (q .0 ∙ ap (λ (p : Player). progressOf (length (a .trace .now)) (run (a .output) traceClocks p (linesLeft p (linesIn true (a .trace .now))) (length (a .out .now)))) n),
+      q .1 ∙ ap (λ (p : Player). over (run (a .output) traceClocks p (linesLeft p (linesIn true (a .trace .now))) (length (a .out .now))) (a .out .now)) n,
     )
 
 pub play-spec : {M : Type 1} → statement M

@@ -25,7 +25,7 @@ part-text-end c =
     let q = c .before .before .before .play in
     let a = c .before .before .before .before .before .before .before .args in
     let w = ap {B = ℕ} (λ (x : Summary). x .written) (q .ensures .0) in
-    omega (arith, w, over-within (runOf (a .trace .now) (length (a .out .now))) (a .out .now) (q .last .1 .0) (q .ensures .1) (q .kept .1 .0), q .kept .1 .0)
+    omega (arith, w, over-within (runOf (a .wanted) (a .trace .now) (length (a .out .now))) (a .out .now) (q .last .1 .1 .0) (q .ensures .1) (q .kept .1 .1 .0), q .kept .1 .1 .0)
 
 text-requires : tie.Need-text-requires
 text-requires c κs = search needs

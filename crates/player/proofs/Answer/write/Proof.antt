@@ -1,25 +1,49 @@
-use Rattle.player.specs.Answers.{answerText, textOf}
-use mathlib.Core.Path.{ap}
-use Rattle.player.proofs.Puts.{put-as}
-use Rattle.iic.specs.declared.Pins.{Pins}
 use borrow.Author.Needs.{needs}
 use Rattle.player.proofs.Answer.write.Statement.{statement}
 use Rattle.player.proofs.Answer.write.Tie as tie
+use Rattle.player.proofs.Answer.write.Reads as reads
+use Rattle.player.proofs.Answer.write.Lts as lts
+use Rattle.player.proofs.Answer.write_answer.Reads as write-answer-reads
+use Rattle.player.proofs.answers.write_report.Reads as write-report-reads
+use Rattle.window.proofs.Window.report.Reads as report-reads
 
-pins-requires : tie.Need-pins-requires
-pins-requires c κs = search needs
+enum-told : tie.Need-enum-told
+enum-told c = search needs
 
-write-line-requires : tie.Need-write-line-requires
-write-line-requires c κs = search needs
+write-answer-requires : tie.Need-write-answer-requires
+write-answer-requires c κs = search needs
+
+enum-told-2 : tie.Need-enum-told-2
+enum-told-2 c = search needs
+
+report-requires : tie.Need-report-requires
+report-requires c κs = search needs
+
+write-report-requires : tie.Need-write-report-requires
+write-report-requires c κs = search needs
 
 same-length : tie.Need-same-length
 same-length c = search needs
 
 returns : tie.Need-returns
-unfolding textOf
-returns c =
-    let a = c .before .before .before .before .before .before .before .before .args in
-    put-as (ap (λ (p : Pins). answerText (a .number) (a .self .refusal) (a .self .value) p (a .self .host .state .registers .status)) (c .before .before .before .pins .ensures)) (c .before .before .write-line .ensures)
+returns c = simp (c .before .before .before .before .enum-told .given .1) (c .before .before .write-answer .ensures)
+
+same-length-2 : tie.Need-same-length-2
+same-length-2 c = search needs
+
+returns-2 : tie.Need-returns-2
+returns-2 c = simp (c .before .before .before .before .before .enum-told2 .given .1, ← c .before .before .before .report .ensures .0) (c .before .before .write-report .ensures)
 
 pub write-spec : {M : Type 1} → statement M
-write-spec = tie.close (tie.spec pins-requires write-line-requires same-length returns)
+write-spec =
+    tie.close
+    (tie.spec
+    enum-told
+    write-answer-requires
+    enum-told-2
+    report-requires
+    write-report-requires
+    same-length
+    returns
+    same-length-2
+    returns-2)
