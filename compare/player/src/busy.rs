@@ -1,10 +1,10 @@
-//! How busy the bus is (document 02, request (d)): in how many lines a flag rose, kept line by line and counted anew after
-//! each.
+//! How busy the bus is (document 02, requests (d) and (l)): in how many lines a flag rose, kept line by line and counted
+//! anew after each.
 use crate::Player;
 use std::io::Write;
 
-/// Lines of a block.
-const BLOCK: usize = 16;
+/// The latest lines that count.
+const LATEST: usize = 64;
 
 #[derive(Default)]
 pub struct Busy {
@@ -28,8 +28,7 @@ fn rose(before: u8, after: u8) -> bool {
     (0..8).any(|bit| before >> bit & 1 == 0 && after >> bit & 1 == 1)
 }
 
-/// In how many lines a flag rose, in the last line's block and the three before it.
+/// In how many of the latest lines a flag rose.
 pub fn report(rose: &[bool]) -> usize {
-    let block = rose.len().saturating_sub(1) / BLOCK;
-    rose[block.saturating_sub(3) * BLOCK..].iter().filter(|rose| **rose).count()
+    rose[rose.len().saturating_sub(LATEST)..].iter().filter(|rose| **rose).count()
 }

@@ -129,15 +129,12 @@ fn reports_have_the_room_of_answers() {
 }
 
 #[test]
-fn reports_by_blocks() {
+fn reports_on_the_latest_64_lines() {
     let all = [true; 96];
-    for lines in 0..=64 {
-        assert_eq!(report(&all[..lines]), lines);
+    for lines in 0..=96 {
+        assert_eq!(report(&all[..lines]), lines.min(64));
     }
-    for lines in 65..=96 {
-        assert_eq!(report(&all[..lines]), 49 + (lines - 1) % 16, "{lines}");
-    }
-    // The first line of a block alone.
+    // One line alone.
     let mut one = [false; 96];
     one[16] = true;
     for lines in 0..=96 {

@@ -10,7 +10,7 @@ use Rattle.clocks.specs.declared.Clocks.{Clocks}
 use Rattle.window.specs.declared.Window.{Window}
 use Rattle.window.specs.Lines.{Line}
 use Rattle.window.specs.Window.{emptyWindow, takeOf, reportOf}
-use Rattle.window.specs.ReportLaws.{counts-four-blocks}
+use Rattle.window.specs.ReportLaws.{counts-latest}
 use Rattle.player.specs.declared.Output.{Output}
 use Rattle.player.specs.declared.Player.{Player}
 use Rattle.player.specs.Lines.{linesIn}
@@ -37,4 +37,4 @@ window-is o k p (l ∷ ls) free e =
 
 pub reports-count : ReportsCount
 unfolding runOf freshPlayer
-reports-count o trace free e = ap reportOf (window-is o _ _ _ free e) ∙ counts-four-blocks (statusesIn trace)
+reports-count o trace free e = ap reportOf (window-is o _ _ _ free e) ∙ counts-latest (statusesIn trace)

@@ -1,10 +1,10 @@
--- Definitions: what the reports on a whole trace count (document 02, (d)): the lines themselves, each with its status before and after.
+-- Definitions: what the reports on a whole trace count (document 02, (d) and (l)): the lines themselves, each with its status before and after.
 use mathlib.Core.Path.{_≡_}
 use mathlib.Core.Bool.{true}
 use mathlib.Core.List.{List, [], _∷_}
 use Prim.Native.Nat.{ℕ}
 use Rattle.clocks.specs.declared.Clocks.{Clocks}
-use Rattle.window.specs.Lines.{Line, rises, fourBlocks}
+use Rattle.window.specs.Lines.{Line, rises, latest}
 use Rattle.window.specs.Window.{reportOf}
 use Rattle.player.specs.declared.Host.{Host}
 use Rattle.player.specs.declared.Output.{Output}
@@ -27,8 +27,8 @@ statuses k h (l ∷ ls) =
 abbrev pub statusesIn : List ℕ → List Line
 statusesIn trace = statuses traceClocks freshHost (linesLeft freshPlayer (linesIn true trace))
 
--- "The report equals that count, taken from the lines themselves": after a whole trace that had room
+-- "exactly the number of lines with a rising flag among the latest 64, or all lines while fewer were played": after a whole trace that had room
 abbrev pub ReportsCount : Type 0
 ReportsCount =
     (o : Output) (trace : List ℕ) (free : ℕ) → runOf o trace free .refusal ≡ 0
-    → reportOf (runOf o trace free .player .window) ≡ rises (fourBlocks (statusesIn trace))
+    → reportOf (runOf o trace free .player .window) ≡ rises (latest 64 (statusesIn trace))

@@ -1,5 +1,5 @@
--- Definitions: the lines of a trace and those in which a flag rose (document 02, request (d)).
-use Prim.Native.Nat.{ℕ, zero, suc, _+_, _-_, _*_, _/_, _%_}
+-- Definitions: the lines of a trace and those in which a flag rose (document 02, requests (d) and (l)).
+use Prim.Native.Nat.{ℕ, zero, suc, _+_, _-_, _/_, _%_}
 use mathlib.Core.Bool.{Bool, false, _&&_, _||_, cond}
 use mathlib.Core.List.{List, [], _∷_}
 use lib.Dec.{eqb}
@@ -24,14 +24,6 @@ unfoldable pub rises : List Line → ℕ
 rises [] = 0
 rises (l ∷ ls) = riseOf (l .before) (l .after) + rises ls
 
--- "the latest 64 lines": those at the end of the list, or all where it has fewer
+-- "among the latest 64, or all lines while fewer were played": those at the end of the list
 abbrev pub latest : ℕ → List Line → List Line
 latest n lines = drop (length lines - n) lines
-
--- the block of a line by its number from 1: "blocks of 16 lines", counted from 0
-abbrev pub blockOf : ℕ → ℕ
-blockOf number = (number - 1) / 16
-
--- "that line's block and the three before it, as many as exist", for the last line of the list: all lines from the first of those blocks on
-abbrev pub fourBlocks : List Line → List Line
-fourBlocks lines = drop (16 * (blockOf (length lines) - 3)) lines

@@ -1,18 +1,19 @@
 -- Laws: what a window reports after any list of lines is the count that Reports.antt states. Assumes nothing.
-use mathlib.Core.Path.{_≡_, refl, sym, ap, _∙_}
+use mathlib.Core.Path.{_≡_, sym, ap, _∙_}
 use mathlib.Core.Bool.{Bool, true, false, cond}
-use mathlib.Core.Logic.{_⊎_, ⊎-elim}
 use mathlib.Core.List.{List, [], _∷_, _++_, append-assoc, append-nil, foldl}
-use Prim.Native.Nat.{ℕ, _+_, _-_, _*_, _%_, _≤_, _<_}
-use native.Mathlib.Nat.{eq-zero-or-pos}
+use Prim.Native.Nat.{ℕ, zero, suc, _+_, _-_, _*_, _/_, _%_, _^_, _≤_, _<_}
+use native.Mathlib.Nat.{add-comm, sub-zero, mul-assoc, mod-lt, mod-eq-of-lt, zero-mod, pow-suc}
 use native.Mathlib.Omega.{arith}
-use lib.ListN.{length, take, drop, length-append, take-append-drop}
-use lib.Seq.{take-all, take-append-le, take-length, drop-drop}
-use borrow.Author.Tests.{eq-eqb, ne-eqb}
+use lib.Arith.{digits-mod}
+use lib.Count.{ones, ones-step}
+use lib.ListN.{length, drop, length-append}
+use lib.Pow.{pow-pos, split, mod-mod-pow}
+use lib.Seq.{drop-append-le, drop-length, drop-nil}
 use Rattle.window.specs.declared.Window.{Window}
-use Rattle.window.specs.Lines.{Line, risesIn, riseOf, rises, latest, blockOf, fourBlocks}
-use Rattle.window.specs.Window.{emptyWindow, movedBack, openedOf, counted, takeOf, reportOf, windowOf}
-use Rattle.window.specs.Reports.{CountsFourBlocks, AtMostLatest, EqualsLatest}
+use Rattle.window.specs.Lines.{Line, risesIn, riseOf, rises, latest}
+use Rattle.window.specs.Window.{emptyWindow, takeOf}
+use Rattle.window.specs.Reports.{CountsLatest}
 
 -- ## Counts
 
@@ -21,113 +22,92 @@ unfolding rises
 rises-append [] b = omega arith
 rises-append (l ∷ a) b = let e : rises (a ++ b) ≡ rises a + rises b = rises-append a b in omega arith
 
-rise-le : (before after : ℕ) → riseOf before after ≤ 1
+pub rise-le : (before after : ℕ) → riseOf before after ≤ 1
 rise-le before after = by (risesIn 8 before after)
   where
     by : (t : Bool) → cond t 1 0 ≤ 1
     by true = omega arith
     by false = omega arith
 
--- in how many of the first k lines a flag rose
-abbrev first : List Line → ℕ → ℕ
-first lines k = rises (take k lines)
+-- the latest lines of one line more
+latest-more : (j : ℕ) (taken : List Line) (l : Line) → rises (latest (suc j) (taken ++ (l ∷ []))) ≡ rises (latest j taken) + riseOf (l .before) (l .after)
+unfolding rises
+latest-more j taken l =
+    let longer : length (taken ++ (l ∷ [])) ≡ length taken + 1 = length-append taken (l ∷ []) in
+    let e : length (taken ++ (l ∷ [])) - suc j ≡ length taken - j = omega arith in
+    let d : latest (suc j) (taken ++ (l ∷ [])) ≡ latest j taken ++ (l ∷ []) = ap (λ (k : ℕ). drop k (taken ++ (l ∷ []))) e ∙ drop-append-le (length taken - j) taken (l ∷ []) (omega arith) in
+    let s : rises (latest j taken ++ (l ∷ [])) ≡ rises (latest j taken) + (riseOf (l .before) (l .after) + 0) = rises-append (latest j taken) (l ∷ []) in
+    ap rises d ∙ s ∙ omega arith
 
-rest : (k : ℕ) (lines : List Line) → first lines k + rises (drop k lines) ≡ rises lines
-rest k lines = sym (rises-append (take k lines) (drop k lines)) ∙ ap rises (take-append-drop k lines)
+-- ## Bits
 
--- ## The window after some lines
+low-digits : (q p e r : ℕ) → e < p → r ≤ 1 → ((q * p + e) * 2 + r) % (p * 2) ≡ e * 2 + r
+low-digits q p e r less once =
+    let a : q * p * 2 ≡ q * (p * 2) = mul-assoc q p 2 in
+    let g : (q * p + e) * 2 + r ≡ q * (p * 2) + (e * 2 + r) = omega arith in
+    ap (λ (n : ℕ). n % (p * 2)) g ∙ digits-mod q (omega arith)
 
--- A window after n lines, of the first k of which a flag rose in s k: each count is the difference between what stands at a block's end and at its
--- beginning. Blocks that don't exist begin and end at 0.
-record Holds (n : ℕ) (s : ℕ → ℕ) (w : Window) : Type 0 where
-  at : w .position ≡ n % 16
-  small : w .present + 16 * blockOf n ≤ n
-  first-back : w .present + s (16 * blockOf n) ≡ s n
-  second-back : w .previous + s (16 * (blockOf n - 1)) ≡ s (16 * blockOf n)
-  third-back : w .earlier + s (16 * (blockOf n - 2)) ≡ s (16 * (blockOf n - 1))
-  fourth-back : w .earliest + s (16 * (blockOf n - 3)) ≡ s (16 * (blockOf n - 2))
+-- the lowest j bits of a word, and one more below them
+low-bits : (x r j : ℕ) → r ≤ 1 → j ≤ 63 → (x % 2 ^ 63 * 2 + r) % 2 ^ suc j ≡ x % 2 ^ j * 2 + r
+low-bits x r j once le =
+    let y = x % 2 ^ 63 in
+    let k : 63 ≡ (63 - j) + j = omega arith in
+    let low : y % 2 ^ j ≡ x % 2 ^ j = ap (λ (n : ℕ). x % 2 ^ n % 2 ^ j) k ∙ mod-mod-pow x (63 - j) j in
+    ap (λ (n : ℕ). (y * 2 + r) % n) (pow-suc 2 j)
+    ∙ ap (λ (n : ℕ). (n * 2 + r) % (2 ^ j * 2)) (sym (split y j))
+    ∙ low-digits (y / 2 ^ j) (2 ^ j) (y % 2 ^ j) r (mod-lt y (pow-pos j)) once
+    ∙ ap (λ (n : ℕ). n * 2 + r) low
 
--- one line more, in which a flag rose r times
-module _ (n r : ℕ) (s t : ℕ → ℕ) (w : Window) (h : Holds n s w) (once : r ≤ 1) (kept : (k : ℕ) → k ≤ n → t k ≡ s k) (more : t (n + 1) ≡ s n + r) where
-  moved : (i j : ℕ) → i ≡ j → j ≤ n → t i ≡ s j
-  moved i j e le = ap t e ∙ kept j le
-
-  opens : n % 16 ≡ 0 → Holds (n + 1) t (counted (movedBack w) r)
-  opens z =
-      let a : t (16 * blockOf (n + 1)) ≡ s n = moved (16 * blockOf (n + 1)) n (omega arith) (omega arith) in
-      let b : t (16 * (blockOf (n + 1) - 1)) ≡ s (16 * blockOf n) = moved (16 * (blockOf (n + 1) - 1)) (16 * blockOf n) (omega arith) (omega arith) in
-      let c : t (16 * (blockOf (n + 1) - 2)) ≡ s (16 * (blockOf n - 1)) = moved (16 * (blockOf (n + 1) - 2)) (16 * (blockOf n - 1)) (omega arith) (omega arith) in
-      let d : t (16 * (blockOf (n + 1) - 3)) ≡ s (16 * (blockOf n - 2)) = moved (16 * (blockOf (n + 1) - 3)) (16 * (blockOf n - 2)) (omega arith) (omega arith) in
-      record { at = omega arith; small = omega arith; first-back = omega arith; second-back = omega arith; third-back = omega arith; fourth-back = omega arith }
-
-  goes-on : 0 < n % 16 → Holds (n + 1) t (counted w r)
-  goes-on p =
-      let a : t (16 * blockOf (n + 1)) ≡ s (16 * blockOf n) = moved (16 * blockOf (n + 1)) (16 * blockOf n) (omega arith) (omega arith) in
-      let b : t (16 * (blockOf (n + 1) - 1)) ≡ s (16 * (blockOf n - 1)) = moved (16 * (blockOf (n + 1) - 1)) (16 * (blockOf n - 1)) (omega arith) (omega arith) in
-      let c : t (16 * (blockOf (n + 1) - 2)) ≡ s (16 * (blockOf n - 2)) = moved (16 * (blockOf (n + 1) - 2)) (16 * (blockOf n - 2)) (omega arith) (omega arith) in
-      let d : t (16 * (blockOf (n + 1) - 3)) ≡ s (16 * (blockOf n - 3)) = moved (16 * (blockOf (n + 1) - 3)) (16 * (blockOf n - 3)) (omega arith) (omega arith) in
-      record { at = omega arith; small = omega arith; first-back = omega arith; second-back = omega arith; third-back = omega arith; fourth-back = omega arith }
-
-  holds-more : Holds (n + 1) t (counted (openedOf w) r)
-  unfolding openedOf
-  holds-more =
-      ⊎-elim
-      (λ z. rw (eq-eqb (w .position % 16) 0 (omega (arith, h .at))) (opens z))
-      (λ p. rw (ne-eqb (w .position % 16) 0 (λ z. omega (arith, h .at))) (goes-on p))
-      (eq-zero-or-pos (n % 16))
+ones-more : (n r : ℕ) → r ≤ 1 → ones (n * 2 + r) ≡ ones n + r
+ones-more n r once =
+    let low : (n * 2 + r) % 2 ≡ r = omega arith in
+    let high : (n * 2 + r) / 2 ≡ n = omega arith in
+    let s : ones (n * 2 + r) ≡ (n * 2 + r) % 2 + ones ((n * 2 + r) / 2) = ones-step (n * 2 + r) in
+    s ∙ rw (low, high) (add-comm r (ones n))
 
 -- ## The window after a list of lines
 
-abbrev step : Window → Line → Window
-step w l = takeOf w (l .before) (l .after)
+-- the lowest k bits are those of the latest k lines
+record Holds (taken : List Line) (w : Window) : Type 0 where
+  word : w .bits < 2 ^ 64
+  counts : (k : ℕ) → k ≤ 64 → ones (w .bits % 2 ^ k) ≡ rises (latest k taken)
+
+none-latest : (taken : List Line) → rises (latest 0 taken) ≡ 0
+unfolding rises
+none-latest taken = ap rises (ap (λ (k : ℕ). drop k taken) (sub-zero (length taken)) ∙ drop-length taken)
+
+ones-none : (n : ℕ) → ones (n % 2 ^ 0) ≡ 0
+unfolding ones
+ones-none n = let z : n % 1 ≡ 0 = omega arith in ap ones z
+
+holds-more : (taken : List Line) (w : Window) (l : Line) → Holds taken w → Holds (taken ++ (l ∷ [])) (takeOf w (l .before) (l .after))
+unfolding takeOf
+holds-more taken w l h = record { word = omega (arith, rise-le (l .before) (l .after)); counts = counts }
+  where
+    r : ℕ
+    r = riseOf (l .before) (l .after)
+
+    counts : (k : ℕ) → k ≤ 64 → ones ((w .bits % 2 ^ 63 * 2 + r) % 2 ^ k) ≡ rises (latest k (taken ++ (l ∷ [])))
+    counts zero le = ones-none (w .bits % 2 ^ 63 * 2 + r) ∙ sym (none-latest (taken ++ (l ∷ [])))
+    counts (suc j) le =
+        ap ones (low-bits (w .bits) r j (rise-le (l .before) (l .after)) (omega arith))
+        ∙ ones-more (w .bits % 2 ^ j) r (rise-le (l .before) (l .after))
+        ∙ ap (λ (n : ℕ). n + r) (h .counts j (omega arith))
+        ∙ sym (latest-more j taken l)
 
 -- after the lines taken, and further ones
-holds-after : (taken lines : List Line) (w : Window) → Holds (length taken) (first taken) w → Holds (length (taken ++ lines)) (first (taken ++ lines)) (foldl step w lines)
-unfolding takeOf rises
+holds-after : (taken lines : List Line) (w : Window) → Holds taken w → Holds (taken ++ lines) (foldl (λ (w : Window) (l : Line). takeOf w (l .before) (l .after)) w lines)
 holds-after taken [] w h = rw append-nil h
 holds-after taken (l ∷ lines) w h =
-    let r = riseOf (l .before) (l .after) in
-    let longer : length (taken ++ (l ∷ [])) ≡ length taken + 1 = length-append taken (l ∷ []) in
-    let all : first (taken ++ (l ∷ [])) (length taken + 1) ≡ rises (taken ++ (l ∷ [])) = ap rises (take-all (length taken + 1) (taken ++ (l ∷ [])) (omega arith)) in
-    let before : first taken (length taken) ≡ rises taken = ap rises (take-length taken) in
-    let sum : rises (taken ++ (l ∷ [])) ≡ rises taken + (r + 0) = rises-append taken (l ∷ []) in
-    rw (← append-assoc taken (l ∷ []) lines)
-    (holds-after (taken ++ (l ∷ [])) lines (step w l)
-    (rw longer
-    (holds-more (length taken) r (first taken) (first (taken ++ (l ∷ []))) w h (rise-le (l .before) (l .after)) (λ k le. ap rises (take-append-le k taken (l ∷ []) le)) (omega arith))))
+    rw (← append-assoc taken (l ∷ []) lines) (holds-after (taken ++ (l ∷ [])) lines (takeOf w (l .before) (l .after)) (holds-more taken w l h))
 
-holds : (lines : List Line) → Holds (length lines) (first lines) (windowOf lines)
-unfolding rises
-holds lines = holds-after [] lines emptyWindow (record { at = refl; small = omega arith; first-back = refl; second-back = refl; third-back = refl; fourth-back = refl })
+holds-empty : Holds [] emptyWindow
+unfolding ones rises
+holds-empty = record { word = omega arith; counts = λ k le. ap ones (zero-mod (2 ^ k)) ∙ sym (ap rises (drop-nil {A = Line} (0 - k))) }
 
 -- ## What it reports
 
-pub counts-four-blocks : CountsFourBlocks
-counts-four-blocks lines =
-    let h = holds lines in
-    let all : first lines (length lines) ≡ rises lines = ap rises (take-length lines) in
-    let e : first lines (16 * (blockOf (length lines) - 3)) + rises (fourBlocks lines) ≡ rises lines = rest (16 * (blockOf (length lines) - 3)) lines in
-    omega (arith, h)
-
--- those four blocks are the latest 49 to 64 lines, or all while there are fewer
-pub blocks-are-latest : (lines : List Line) → 0 < length lines → fourBlocks lines ≡ latest (49 + (length lines - 1) % 16) lines
-blocks-are-latest lines p =
-    let e : 16 * (blockOf (length lines) - 3) ≡ length lines - (49 + (length lines - 1) % 16) = omega arith in
-    ap (λ (k : ℕ). drop k lines) e
-
--- fewer lines, fewer rises
-fewer : (j k : ℕ) (lines : List Line) → j ≤ k → rises (drop k lines) ≤ rises (drop j lines)
-fewer j k lines le =
-    let e : j + (k - j) ≡ k = omega arith in
-    let d : rises (drop (k - j) (drop j lines)) ≡ rises (drop k lines) = ap rises (drop-drop (k - j) j lines ∙ ap (λ (i : ℕ). drop i lines) e) in
-    omega (arith, rest (k - j) (drop j lines))
-
-pub at-most-latest : AtMostLatest
-at-most-latest lines =
-    let e : reportOf (windowOf lines) ≡ rises (fourBlocks lines) = counts-four-blocks lines in
-    omega (arith, fewer (length lines - 64) (16 * (blockOf (length lines) - 3)) lines (omega arith))
-
-pub equals-latest : EqualsLatest
-equals-latest lines ends =
-    let e : 16 * (blockOf (length lines) - 3) ≡ length lines - 64 = ⊎-elim (λ h. omega arith) (λ h. omega arith) ends in
-    counts-four-blocks lines ∙ ap (λ (k : ℕ). rises (drop k lines)) e
+pub counts-latest : CountsLatest
+counts-latest lines =
+    let h = holds-after [] lines emptyWindow holds-empty in
+    ap ones (sym (mod-eq-of-lt (h .word))) ∙ h .counts 64 (omega arith)

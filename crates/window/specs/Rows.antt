@@ -1,11 +1,11 @@
 -- Laws: rows of lines and reports, computed from the definitions. Assumes nothing.
-use mathlib.Core.Path.{_≡_, refl}
+use mathlib.Core.Path.{_≡_, refl, ap₂}
 use mathlib.Core.List.{List, [], _∷_, _++_, map}
 use Prim.Native.Nat.{ℕ}
 use lib.ListN.{take, replicate}
-use Rattle.window.specs.declared.Window.{Window}
 use Rattle.window.specs.Lines.{Line, risesIn, riseOf, rises, latest}
-use Rattle.window.specs.Window.{openedOf, takeOf, reportOf, windowOf}
+use Rattle.window.specs.Window.{reportOf, windowOf}
+use Rattle.window.specs.ReportLaws.{counts-latest}
 
 abbrev line : ℕ → ℕ → Line
 line b a = record { before = b; after = a }
@@ -23,34 +23,21 @@ busy n = replicate n (line 0x00 0x81)
 abbrev idle : ℕ → List Line
 idle n = replicate n (line 0x81 0x81)
 
--- what is reported after the first n of some lines, and what the latest 64 of them are
-abbrev reported : List Line → ℕ → ℕ
-reported lines n = reportOf (windowOf (take n lines))
+-- what is reported after the first n of some lines
+abbrev reported : List Line → List ℕ → List ℕ
+reported lines ns = map (λ (n : ℕ). reportOf (windowOf (take n lines))) ns
 
-abbrev latestOf : List Line → ℕ → ℕ
-latestOf lines n = rises (latest 64 (take n lines))
+-- by the count: the ones of a word of 64 bits aren't computed from their definition
+counted : (lines : List Line) (ns : List ℕ) → reported lines ns ≡ map (λ (n : ℕ). rises (latest 64 (take n lines))) ns
+counted lines [] = refl
+counted lines (n ∷ ns) = ap₂ (λ (m : ℕ) (ms : List ℕ). m ∷ ms) (counts-latest (take n lines)) (counted lines ns)
 
--- 96 lines: every one counts until line 64; line 65 begins a block and leaves out the sixteen of the first one
-all-rise : map (reported (busy 96)) (0 ∷ 1 ∷ 16 ∷ 17 ∷ 48 ∷ 49 ∷ 63 ∷ 64 ∷ 65 ∷ 66 ∷ 79 ∷ 80 ∷ 81 ∷ 96 ∷ [])
-    ≡ 0 ∷ 1 ∷ 16 ∷ 17 ∷ 48 ∷ 49 ∷ 63 ∷ 64 ∷ 49 ∷ 50 ∷ 63 ∷ 64 ∷ 49 ∷ 64 ∷ []
-unfolding risesIn openedOf takeOf
-all-rise = refl
-
--- sixteen lines, then none: the report drops by a block, the latest 64 line by line
-then-none : map (reported (busy 16 ++ idle 64)) (16 ∷ 64 ∷ 65 ∷ 66 ∷ 80 ∷ []) ≡ 16 ∷ 16 ∷ 0 ∷ 0 ∷ 0 ∷ []
-unfolding risesIn openedOf takeOf
-then-none = refl
-
-then-none-latest : map (latestOf (busy 16 ++ idle 64)) (16 ∷ 64 ∷ 65 ∷ 66 ∷ 80 ∷ []) ≡ 16 ∷ 16 ∷ 15 ∷ 14 ∷ 0 ∷ []
+-- every line counts until line 64, and 64 of them from there on
+all-rise : reported (busy 96) (0 ∷ 1 ∷ 16 ∷ 17 ∷ 48 ∷ 49 ∷ 63 ∷ 64 ∷ 65 ∷ 66 ∷ 80 ∷ 96 ∷ []) ≡ 0 ∷ 1 ∷ 16 ∷ 17 ∷ 48 ∷ 49 ∷ 63 ∷ 64 ∷ 64 ∷ 64 ∷ 64 ∷ 64 ∷ []
 unfolding risesIn rises
-then-none-latest = refl
+all-rise = counted (busy 96) (0 ∷ 1 ∷ 16 ∷ 17 ∷ 48 ∷ 49 ∷ 63 ∷ 64 ∷ 65 ∷ 66 ∷ 80 ∷ 96 ∷ [])
 
--- a window that no lines lead to: the position counts modulo 16, the present block's count modulo 256
-abbrev full : ℕ → Window
-full n = record { position = n; present = 255; previous = 255; earlier = 255; earliest = 255 }
-
-any-window : (takeOf (full 255) 0x00 0x81 ≡ record { position = 0; present = 0; previous = 255; earlier = 255; earliest = 255 })
-    × (takeOf (full 240) 0x00 0x81 ≡ record { position = 1; present = 1; previous = 255; earlier = 255; earliest = 255 })
-    × (reportOf (full 255) ≡ 1020)
-unfolding risesIn openedOf takeOf
-any-window = (refl, refl, refl)
+-- sixteen lines, then none: from line 65 on they leave one by one
+then-none : reported (busy 16 ++ idle 64) (16 ∷ 64 ∷ 65 ∷ 66 ∷ 79 ∷ 80 ∷ []) ≡ 16 ∷ 16 ∷ 15 ∷ 14 ∷ 1 ∷ 0 ∷ []
+unfolding risesIn rises
+then-none = counted (busy 16 ++ idle 64) (16 ∷ 64 ∷ 65 ∷ 66 ∷ 79 ∷ 80 ∷ [])

@@ -47,7 +47,7 @@ pub fn compare(options: &Options) -> u64 {
     comparison.section("bytes at random", Comparison::noise);
     comparison.section("one byte damaged", Comparison::damage);
     comparison.section("reads of one byte", Comparison::reads);
-    comparison.section("of 15 to 81 lines", Comparison::blocks);
+    comparison.section("of 15 to 81 lines", Comparison::windows);
     comparison.section("about a million lines", |c| c.millions(options.quick));
     comparison.section("of 10,000 lines", |c| {
         for _ in 0..options.count.div_ceil(LINES as u64) {
@@ -148,8 +148,8 @@ impl Comparison {
         }
     }
 
-    /// Around the ends of blocks of 16 lines and of windows of 64.
-    fn blocks(&mut self) {
+    /// Around the ends of blocks of 16 lines and of the window of 64.
+    fn windows(&mut self) {
         for lines in [15, 16, 17, 47, 48, 49, 63, 64, 65, 66, 79, 80, 81] {
             for _ in 0..20 {
                 let trace = self.trace(lines);
