@@ -1,0 +1,2 @@
+pub mod StatusWrites
+pub mod Invariant
