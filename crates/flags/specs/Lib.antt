@@ -1,2 +1,6 @@
 pub mod StatusWrites
 pub mod Invariant
+pub mod Masks
+pub mod Untimed
+pub mod Timed
+pub mod Runs
