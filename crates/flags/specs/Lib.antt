@@ -4,3 +4,4 @@ pub mod Masks
 pub mod Untimed
 pub mod Timed
 pub mod Runs
+pub mod Rows
