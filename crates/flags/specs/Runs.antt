@@ -34,10 +34,10 @@ use Rattle.iic.specs.declared.Iic.{Iic}
 use Rattle.iic.specs.declared.Register.{Register}
 use Rattle.iic.specs.declared.Register.the-variants.{ICCR1, ICCR2, ICDRR, ICDRT, ICIER, ICMR, ICSR, SAR}
 use Rattle.iic.specs.declared.Stepped.{Stepped}
-use Rattle.hosts.specs.Calls.{Call, peek, read, write, inputPins, setGate, deadline, advance, pins, interrupt, interruptWithEnable, validate, Made, callOf, ofByte, outcomeOf}
+use Rattle.hosts.specs.Calls.{Call, peek, read, write, inputPins, setGate, deadline, advance, pins, interrupt, interruptWithEnable, validate, Made, callOf, Answer, refusal, ofByte, outcomeOf}
 use Rattle.flags.specs.Invariant.{Ends, Holds, Keeps, Kept, UpToTdre, Within}
 use Rattle.flags.specs.Masks.{decide, masked-missing, no-other-bits, set-or, taken-out}
-use Rattle.flags.specs.StatusWrites.{BeforeAnyRead, ClearsOnlyShown, Flag, FrameToGo, Latest, Past, RaisesOnlyTdre, Ranges, ReachedStates, StatusWrites, ToGo, aas, adz, al, begin, isSet, isStatus, maskOf, nackf, next, past, rdrf, reached, showing, shown, statusOf, stop, tdre, tend, written}
+use Rattle.flags.specs.StatusWrites.{BeforeAnyRead, ClearsOnlyShown, Flag, FrameToGo, Latest, Past, RaisesOnlyTdre, Ranges, ReachedStates, StatusWrites, ToGo, aas, adz, al, begin, isSet, isStatus, latestAfter, maskOf, nackf, next, past, rdrf, reached, showing, shown, statusOf, stop, tdre, tend, written}
 use Rattle.flags.specs.Timed.{fire-clock, fire-filter, fire-monitor, fire-setup, if-ends, kick, kick-on, left, read-data, schedule-filter, then-ends, turn-clock, turn-filter, turn-monitor, turn-setup, write-at}
 
 -- ## `input_pins`, `set_gate`, `advance`
@@ -184,6 +184,23 @@ holds-next k pins p h = h
 holds-next k interrupt p h = h
 holds-next k (interruptWithEnable retained) p h = h
 holds-next k (validate now) p h = h
+
+-- ## What counts as a read
+
+-- `peek` doesn't
+pub peek-is-no-read : (k : Clocks) (a : ℕ) (p : Past) → next k (peek a) p ≡ p
+unfolding next outcomeOf
+peek-is-no-read k a p = refl
+
+-- nor does a read that is refused
+pub refused-is-no-read : (k : Clocks) (a n : ℕ) (now : Time) (p : Past) → outcomeOf k (read a now) (p .state) .answer ≡ refusal n
+    → next k (read a now) p .latest ≡ p .latest
+unfolding next
+refused-is-no-read k a n now p e = ap (λ (v : Answer). latestAfter (read a now) v (p .latest)) e ∙ either (isStatus a) (p .latest)
+  where
+    either : (t : Bool) (was : Latest) → cond t was was ≡ was
+    either true was = refl
+    either false was = refl
 
 -- ## Any list
 
