@@ -142,7 +142,7 @@ flag-digit f x =
     ap (λ (m : ℕ). has x m) (placed f) ∙ ap (λ (v : ℕ). not (eqb v 0)) (digit-masked (place f) x)
     ∙ truth (digit (place f) x) (one (place f)) (digit-lt (place f) x) (one-pos (place f))
 
-pub set-and : (f : Flag) (a b : ℕ) → isSet f (bitAnd a b) ≡ (isSet f a && isSet f b)
+set-and : (f : Flag) (a b : ℕ) → isSet f (bitAnd a b) ≡ (isSet f a && isSet f b)
 set-and f a b =
     flag-digit f (bitAnd a b) ∙ ap (λ (d : ℕ). eqb d 1) (digit-and (place f) a b)
     ∙ both (digit (place f) a) (digit (place f) b) (digit-lt (place f) a) (digit-lt (place f) b)
@@ -155,7 +155,7 @@ set-or f a b =
     ∙ sym (ap₂ _||_ (flag-digit f a) (flag-digit f b))
 
 -- of a byte
-pub set-not : (f : Flag) (x : ℕ) → x ≤ 0xff → isSet f (0xff - x) ≡ not (isSet f x)
+set-not : (f : Flag) (x : ℕ) → x ≤ 0xff → isSet f (0xff - x) ≡ not (isSet f x)
 set-not f x h =
     flag-digit f (0xff - x) ∙ ap (λ (d : ℕ). eqb d 1) (digit-turned (place f) 8 x (in-byte f) h)
     ∙ neither (digit (place f) x) (digit-lt (place f) x) ∙ sym (ap not (flag-digit f x))

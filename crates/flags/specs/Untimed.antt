@@ -82,7 +82,7 @@ recount-to-go (InFrame f) n h g = go (f .phase) refl g
 -- ## Steps that raise at most TDRE, and any fact that this keeps
 
 module _ (P : Fact) where
-  pub if-kept : (b : Bool) (x y : Iic) → Kept P x → Kept P y → Kept P (cond b x y)
+  if-kept : (b : Bool) (x y : Iic) → Kept P x → Kept P y → Kept P (cond b x y)
   if-kept true x y h g = h
   if-kept false x y h g = g
 
