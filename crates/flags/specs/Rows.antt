@@ -37,7 +37,8 @@ use Rattle.iic.specs.Waiting.{clockFrom}
 use Rattle.iic.specs.Writing as Writing
 use Rattle.iic.specs.declared.Iic.{Iic}
 use Rattle.hosts.specs.Calls as Hosts
-use Rattle.hosts.specs.Calls.{Call, peek, read, write, setGate, Made, lentRead, lentWrite, Answer, nothing, refusal, outcome, outcomeOf}
+use Rattle.hosts.specs.Calls.{Call, peek, read, write, setGate, Made, lentRead, lentWrite, outcome, outcomeOf}
+use Rattle.iic.specs.Told.{Answer, nothing, refusal}
 use Rattle.hosts.specs.ClockRows.{begun, ofStep}
 use Rattle.hosts.specs.Rows.{at, clockSet, made, still}
 use Rattle.flags.specs.StatusWrites as Flags

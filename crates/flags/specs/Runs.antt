@@ -34,7 +34,8 @@ use Rattle.iic.specs.declared.Iic.{Iic}
 use Rattle.iic.specs.declared.Register.{Register}
 use Rattle.iic.specs.declared.Register.the-variants.{ICCR1, ICCR2, ICDRR, ICDRT, ICIER, ICMR, ICSR, SAR}
 use Rattle.iic.specs.declared.Stepped.{Stepped}
-use Rattle.hosts.specs.Calls.{Call, peek, read, write, inputPins, setGate, deadline, advance, pins, interrupt, interruptWithEnable, validate, Made, callOf, Answer, refusal, ofByte, outcomeOf}
+use Rattle.hosts.specs.Calls.{Call, peek, read, write, inputPins, setGate, deadline, advance, pins, interrupt, interruptWithEnable, validate, Made, callOf, outcomeOf}
+use Rattle.iic.specs.Told.{Answer, refusal, ofByte}
 use Rattle.flags.specs.Invariant.{Ends, Holds, Keeps, Kept, UpToTdre, Within}
 use Rattle.flags.specs.Masks.{decide, masked-missing, no-other-bits, set-or, taken-out}
 use Rattle.flags.specs.StatusWrites.{BeforeAnyRead, ClearsOnlyShown, Flag, FrameToGo, Latest, Past, RaisesOnlyTdre, Ranges, ReachedStates, StatusWrites, ToGo, aas, adz, al, begin, isSet, isStatus, latestAfter, maskOf, nackf, next, past, rdrf, reached, showing, shown, statusOf, stop, tdre, tend, written}

@@ -19,7 +19,8 @@ use Rattle.iic.specs.Calls.{guardBy, validateOf, waitsRefusal}
 use Rattle.iic.specs.Checks.{fellBy}
 use Rattle.iic.specs.State.{defaultIic}
 use Rattle.iic.specs.declared.Iic.{Iic}
-use Rattle.hosts.specs.Calls.{Call, peek, read, write, inputPins, setGate, deadline, advance, pins, interrupt, interruptWithEnable, validate, Made, callOf, Answer, refusal, nothing, byte, bit, noLevels, theLevels, noMoment, moment, outcomeOf}
+use Rattle.hosts.specs.Calls.{Call, peek, read, write, inputPins, setGate, deadline, advance, pins, interrupt, interruptWithEnable, validate, Made, callOf, outcomeOf}
+use Rattle.iic.specs.Told.{Answer, refusal, nothing, byte, bit, noLevels, theLevels, noMoment, moment}
 
 -- ## Flags
 
