@@ -1,5 +1,6 @@
 //! Compares the port with the unmodified Rust, call by call: on every boundary, then at random.
 mod differences;
+mod flags;
 mod hosts;
 mod inputs;
 mod judge;
@@ -27,6 +28,7 @@ fn main() -> ExitCode {
             "time" => part::compare(name, calls::TIME, &options),
             "clocks" => part::compare(name, calls::CLOCKS, &options),
             "hosts" => hosts::compare(&options),
+            "flags" => flags::compare(&options),
             "traces" => traces::compare(&options),
             _ => peripheral::compare(&options),
         };

@@ -12,8 +12,14 @@ pub struct Options {
 }
 
 /// What can be compared by itself, and the count of each in the quick run.
-const PARTS: [(&str, u64); 5] =
-    [("time", 4_000_000), ("clocks", 4_000_000), ("iic", 5_000_000), ("hosts", 1_000_000), ("traces", 1_500_000)];
+const PARTS: [(&str, u64); 6] = [
+    ("time", 4_000_000),
+    ("clocks", 4_000_000),
+    ("iic", 5_000_000),
+    ("hosts", 1_000_000),
+    ("flags", 2_000_000),
+    ("traces", 1_500_000),
+];
 /// Where runs of the peripheral can begin.
 const ORIGINS: [&str; 2] = ["default", "made"];
 
@@ -76,7 +82,7 @@ mod tests {
         assert_eq!(of("--part iic --from made"), Ok(vec![("iic", given(1, 1_000_000, false, "made"))]));
         assert_eq!(of("--quick --part traces"), Ok(vec![("traces", given(20_102, 1_500_000, true, "all"))]));
         assert_eq!(of("--seed 7 --count 1_000 --part time --quick"), Ok(vec![("time", given(7, 1_000, true, "all"))]));
-        assert_eq!(of("").map(|parts| parts.len()), Ok(5));
+        assert_eq!(of("").map(|parts| parts.len()), Ok(6));
     }
 
     #[test]

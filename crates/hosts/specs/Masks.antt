@@ -8,10 +8,10 @@ use lib.Bits.{bitAnd, and-step, and-zero-l}
 use lib.Dec.{eqb}
 use Rattle.bus.specs.Bits.{has}
 
-half-and : (a b : ℕ) → bitAnd a b / 2 ≡ bitAnd (a / 2) (b / 2)
+pub half-and : (a b : ℕ) → bitAnd a b / 2 ≡ bitAnd (a / 2) (b / 2)
 half-and a b = omega (arith, and-step a b)
 
-odd-and : (a b : ℕ) → bitAnd a b % 2 ≡ min (a % 2) (b % 2)
+pub odd-and : (a b : ℕ) → bitAnd a b % 2 ≡ min (a % 2) (b % 2)
 odd-and a b = omega (arith, and-step a b)
 
 min-assoc : (a b c : ℕ) → min (min a b) c ≡ min a (min b c)

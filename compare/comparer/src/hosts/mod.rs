@@ -1,7 +1,7 @@
 //! Demand 3 of document 01, on the unmodified Rust: two hosts whose lists of calls are alike once the idle ones are
 //! struck out see the same answers and states, as long as none of the calls left was refused.
 mod idle;
-mod side;
+pub mod side;
 #[cfg(test)]
 mod tests;
 use crate::options::Options;
@@ -17,7 +17,7 @@ use words::calls::{End, Reference};
 use words::iic::{self, Call};
 use words::layout::{self, Args};
 
-type Clocks = <reference::Bridge as Reference>::Set;
+pub type Clocks = <reference::Bridge as Reference>::Set;
 
 #[derive(Default)]
 struct Tally {
@@ -211,6 +211,7 @@ impl Pair<'_> {
     }
 }
 
-fn shown(call: Call, args: &Args) -> String {
+/// A call in words.
+pub fn shown(call: Call, args: &Args) -> String {
     format!("{call:?} {:x} {:x} at {}:{:016x}", args[2], args[3], args[0], args[1])
 }
