@@ -6,6 +6,8 @@ use Prim.Native.Nat.{ℕ, _+_, _-_, _≤_, _<_}
 use lib.Dec.{eqb}
 use lib.ListN.{length, take, drop}
 use Rattle.search.specs.declared.Best.{Best}
+use Rattle.search.specs.declared.Found.{Found}
+use Rattle.search.specs.declared.Found.the-variants.{At, Refused}
 use Rattle.search.specs.Shortest.{drawnBy}
 
 -- so many of the lines draw the number
@@ -20,6 +22,10 @@ pub record Met (ls : List (List ℕ)) (number most r : ℕ) : Type 0 where
 -- a better run has fewer lines
 abbrev pub keptOf : Best → ℕ → ℕ → Best
 keptOf b f drawn = cond (eqb drawn 0) b (record { first = f; most = drawn - 1 })
+
+-- what a search finds whose best run is that
+abbrev pub foundOf : Best → Found
+foundOf b = cond (eqb (b .first) 0) (Refused 18) (At (b .first) (b .most + 1))
 
 -- With the first lines up to `tried` tried, first is that of the best run and most + 1 its length; first is 0 where there is none.
 pub record Sought (ls : List (List ℕ)) (number tried first most : ℕ) : Type 0 where

@@ -3,7 +3,7 @@
 use mathlib.Core.Path.{_≡_, refl, sym, ap, _∙_, subst}
 use mathlib.Core.Bool.{Bool, true, false, cond}
 use mathlib.Core.List.{List, [], _∷_, _++_}
-use mathlib.Core.Logic.{_⊎_, ⊎-elim}
+use mathlib.Core.Logic.{_⊎_, inr, ⊎-elim}
 use Prim.Native.Nat.{ℕ, suc, _+_, _-_, _*_, _≤_, _<_, min}
 use native.Mathlib.Nat.{sub-zero, mul-le-mul}
 use native.Mathlib.Numerals.{add-one}
@@ -20,9 +20,10 @@ use Rattle.player.specs.LineLaws.{line-within, line-next, lines-end}
 use Rattle.player.specs.Calls.{answerOf}
 use Rattle.player.specs.Trace.{traceClocks}
 use Rattle.search.specs.declared.Best.{Best}
-use Rattle.search.specs.Shortest.{unplayed, lastAnswer, drawnBy, Draws, Least, Never}
+use Rattle.search.specs.declared.Found.the-variants.{At, Refused}
+use Rattle.search.specs.Shortest.{unplayed, lastAnswer, drawnBy, Draws, Least, Never, Answers}
 use Rattle.search.specs.ShortestLaws.{less-or}
-use Rattle.search.specs.Search.{Hit, Met, keptOf, Sought}
+use Rattle.search.specs.Search.{Hit, Met, keptOf, foundOf, Sought}
 
 -- ## Lines one at a time
 
@@ -187,12 +188,12 @@ module _ {ls : List (List ℕ)} {number tried : ℕ} {b : Best} (g : Sought ls n
         by true e = kept-old (eqb-true r 0 e)
         by false e = kept-new (let ne = eqb-false r 0 e in omega arith)
 
-module _ {ls : List (List ℕ)} {number tried first most : ℕ} (g : Sought ls number tried first most) (all : length ls ≤ tried) where
-  pub sought-never : first ≡ 0 → Never ls number
-  sought-never z f m d = g .shorter (f - 1) m (omega (arith, d .within, d .some)) (d .some) (omega (arith, d .within, g .none z)) (d .within) (d .draws)
+module _ {ls : List (List ℕ)} {number tried : ℕ} {b : Best} (g : Sought ls number tried (b .first) (b .most)) (all : length ls ≤ tried) where
+  never : b .first ≡ 0 → Never ls number
+  never z f m d = g .shorter (f - 1) m (omega (arith, d .within, d .some)) (d .some) (omega (arith, d .within, g .none z)) (d .within) (d .draws)
 
-  pub sought-least : 0 < number → 0 < first → Least ls number first (most + 1)
-  sought-least real some = record {
+  least : 0 < number → 0 < b .first → Least ls number (b .first) (b .most + 1)
+  least real some = record {
     is = record {
       refuses = real;
       begins = some;
@@ -200,6 +201,18 @@ module _ {ls : List (List ℕ)} {number tried first most : ℕ} (g : Sought ls n
       within = let w = g .found some .1 in omega arith;
       draws = g .found some .2;
     };
-    shortest = λ f m d. ⊎-elim (λ lt. absurd (g .shorter (f - 1) m (omega (arith, d .within, d .some)) (d .some) (omega arith) (d .within) (d .draws))) (λ ge. ge) (less-or m (most + 1));
-    earliest = λ f d. ⊎-elim (λ lt. absurd (g .earlier (f - 1) (omega (arith, d .begins)) (d .within) (d .draws))) (λ ge. ge) (less-or f first);
+    shortest = λ f m d. ⊎-elim (λ lt. absurd (g .shorter (f - 1) m (omega (arith, d .within, d .some)) (d .some) (omega arith) (d .within) (d .draws))) (λ ge. ge) (less-or m (b .most + 1));
+    earliest = λ f d. ⊎-elim (λ lt. absurd (g .earlier (f - 1) (omega (arith, d .begins)) (d .within) (d .draws))) (λ ge. ge) (less-or f (b .first));
   }
+
+  -- where every first line was tried, the best run is what is asked for
+  pub sought-answers : (limit : ℕ) → 0 < number → length ls ≤ limit → Answers ls number limit (foundOf b)
+  sought-answers limit real fits = by (eqb (b .first) 0) refl
+    where
+      by : (t : Bool) → eqb (b .first) 0 ≡ t → Answers ls number limit (cond t (Refused 18) (At (b .first) (b .most + 1)))
+      by true e = inr (fits, never (eqb-true (b .first) 0 e), refl)
+      by false e = (fits, least real (let ne = eqb-false (b .first) 0 e in omega arith))
+
+-- a better run has no more lines than there are
+pub sought-most : {ls : List (List ℕ)} {number tried first most : ℕ} → Sought ls number tried first most → most ≤ length ls
+sought-most {first = first} g = ⊎-elim (λ lt. let e = g .none (omega arith) in omega arith) (λ ge. let w = g .found ge .1 in omega arith) (less-or first 1)

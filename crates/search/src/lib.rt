@@ -5,7 +5,7 @@ ghost use Prim.Native.Nat.{_+_, _*_, _≤_};
 ghost use lib.ListN.{length, drop};
 ghost use Rattle.player.specs.Lines.{linesIn};
 ghost use Rattle.search.specs.Shortest.{Answers, shortestOf, oneNumber};
-ghost use Rattle.search.specs.Search.{Met, Sought, keptOf};
+ghost use Rattle.search.specs.Search.{Met, Sought, keptOf, foundOf};
 use player::Player;
 use player::lines::line_end;
 use player::lines::past;
@@ -94,6 +94,18 @@ impl Best {
             }
         }
     }
+
+    // Where every first line was tried.
+    fn found(self) -> Found
+        requires { ⌜ self .most ≤ 65535 ⌝ }
+        ensures { λ r. ⌜ r ≡ foundOf self ⌝ }
+    {
+        if self.first == 0 {
+            Found::Refused(18)
+        } else {
+            Found::At(self.first, self.most + 1)
+        }
+    }
 }
 
 // The best run of a trace of so many lines.
@@ -139,14 +151,8 @@ pub fn shortest(trace: &[u8], number: u8, limit: u16) -> Searched
     }
     let tried = best_run(trace, number, lines);
     let best = tried.best;
-    if best.first == 0 {
-        return Searched {
-            found: Found::Refused(18),
-            plays: tried.plays,
-        };
-    }
     Searched {
-        found: Found::At(best.first, best.most + 1),
+        found: best.found(),
         plays: tried.plays,
     }
 }
