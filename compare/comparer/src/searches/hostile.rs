@@ -14,7 +14,7 @@ pub fn spoilt(random: &mut Random, trace: &[u8]) -> Vec<u8> {
             let half = lines[..lines.len() / 2].to_vec();
             lines = [half.clone(), half].concat();
         }
-        2 => return late(trace),
+        2 => return late(random, trace),
         3 => return (0..trace.len()).map(|_| random.pick(ALPHABET)).collect(),
         4 => return (0..trace.len() / 20).map(|_| random.pick(b"\nx")).collect(),
         _ => return damaged(random, trace),
@@ -22,14 +22,15 @@ pub fn spoilt(random: &mut Random, trace: &[u8]) -> Vec<u8> {
     lines.concat()
 }
 
-/// Every line in the last second that there is.
-fn late(trace: &[u8]) -> Vec<u8> {
-    let lines = trace.split_inclusive(|byte| *byte == b'\n');
-    let moved = lines.map(|line| match line.iter().position(|byte| *byte == b'\t') {
+/// The lines from some line on in the last second that there is.
+fn late(random: &mut Random, trace: &[u8]) -> Vec<u8> {
+    let lines: Vec<&[u8]> = trace.split_inclusive(|byte| *byte == b'\n').collect();
+    let (before, after) = lines.split_at(random.below(lines.len() as u64 + 1) as usize);
+    let moved = after.iter().map(|line| match line.iter().position(|byte| *byte == b'\t') {
         Some(seconds) => [b"18446744073709551615", &line[seconds..]].concat(),
         None => line.to_vec(),
     });
-    moved.collect::<Vec<_>>().concat()
+    [before.concat(), moved.collect::<Vec<_>>().concat()].concat()
 }
 
 /// A byte in every fifty changed.

@@ -127,7 +127,8 @@ impl Comparison {
     fn cut(&mut self, lines: usize) -> Vec<u8> {
         let more = self.random.below(200) as usize;
         let trace = trace::trace(self.random.word(), lines + more);
-        let from = self.random.pick(&[0, more, self.random.below(more as u64 + 1) as usize]);
+        let anywhere = self.random.below(more as u64 + 1) as usize;
+        let from = self.random.pick(&[0, anywhere, more]);
         trace.split_inclusive(|byte| *byte == b'\n').skip(from).take(lines).collect::<Vec<_>>().concat()
     }
 
