@@ -72,7 +72,8 @@ fn line_after(line: usize, byte: u8) -> usize
     }
 }
 
-// Further bytes of a trace, as far as there is room; of a line the first 65 alone, since more make it no more malformed.
+// Further bytes of a trace, as far as there is room. Of a line the first 65 are held, since more make it no more malformed (`cut-is-same` in
+// crates/search).
 fn hold(trace: &mut [u8], held: Held, part: &[u8]) -> Held
     requires { ⌜ held .used ≤ length (now trace) ⌝ }
     ensures { λ r. ⌜ r .used ≤ length (now (trace .entry)) ⌝ }
@@ -133,32 +134,33 @@ fn show(first: usize, length: usize) {
     }
 }
 
-fn refuse(refusal: u8, number: u8) {
+fn refuse(refusal: u8, number: u8, limit: u16) {
     if refusal == 17 {
-        say(b"17, the trace has more than 256 lines\n");
-        return;
+        say(b"17, the trace has more lines than ");
+        io::print_decimal(2, limit as u64);
+    } else {
+        say(b"18, no run of the trace's lines draws ");
+        io::print_decimal(2, number as u64);
     }
-    say(b"18, no run of its lines draws ");
-    io::print_decimal(2, number as u64);
     io::write_all(2, b"\n");
 }
 
-fn answer(trace: &[u8], number: u8) {
-    let done = search::shortest(trace, number, 256);
+fn answer(trace: &[u8], number: u8, limit: u16) {
+    let done = search::shortest(trace, number, limit);
     let found = done.found;
     match found {
         Found::At(first, length) => show(first, length),
-        Found::Refused(refusal) => refuse(refusal, number),
+        Found::Refused(refusal) => refuse(refusal, number, limit),
     }
 }
 
-// Room for more than 256 lines, of at most 66 bytes each.
-fn search_for(number: u8) {
+// There is room for 992 lines, of at most 66 bytes each.
+fn search_for(number: u8, limit: u16) {
     let mut room = io::large_buffer();
     let read = read_trace(&mut room);
     let used = read.used;
     if read.fine {
-        answer(&room[0..used], number);
+        answer(&room[0..used], number, limit);
     } else {
         say(b"standard input can't be read\n");
     }
@@ -173,7 +175,7 @@ fn main() {
         return;
     }
     match asked {
-        Asked::Number(number) => search_for(number),
+        Asked::Number(number) => search_for(number, 256),
         Asked::Other => say(b"NUMBER is a decimal number from 0 to 255\n"),
     }
 }
