@@ -12,7 +12,7 @@ pub struct Options {
 }
 
 /// What can be compared by itself, and the count of each in the quick run.
-const PARTS: [(&str, u64); 6] = [
+const PARTS: [(&str, u64); 7] = [
     ("time", 4_000_000),
     ("clocks", 4_000_000),
     ("iic", 5_000_000),

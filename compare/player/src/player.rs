@@ -12,7 +12,7 @@ const MALFORMED: u8 = 4;
 /// Refusal 5.
 const EARLIER: u8 = 5;
 /// Refusals 7 and 13, for which the Rust has one error.
-const OVERFLOW: u8 = 7;
+pub(crate) const OVERFLOW: u8 = 7;
 const HALF_COUNT: u8 = 13;
 /// The address of ICSR.
 const STATUS: u16 = 4;

@@ -1,4 +1,5 @@
 //! Every run of consecutive lines of a trace, played apart (document 02, (h) and (i)).
+use crate::player::OVERFLOW;
 use crate::Player;
 
 /// What the last line of each run draws.
@@ -9,11 +10,16 @@ pub struct Runs {
 }
 
 impl Runs {
-    /// Plays every run of a trace of at most so many lines, each from the default.
-    pub fn of(trace: &[u8], most: usize) -> Self {
+    /// Plays every run of a trace of at most so many lines, each from the default. Of a run whose last line overflows it
+    /// is told whether that is 7 or 13, which the Rust doesn't tell.
+    pub fn of(trace: &[u8], most: usize, overflow: impl Fn(&[&[u8]]) -> u8) -> Self {
         let lines: Vec<&[u8]> = trace.split_inclusive(|byte| *byte == b'\n').collect();
         let lengths = if lines.len() > most { 0 } else { lines.len() };
-        let drawn = (1..=lengths).map(|length| lines.windows(length).map(last_drawn).collect()).collect();
+        let drawn = |lines: &[&[u8]]| match last_drawn(lines) {
+            OVERFLOW => overflow(lines),
+            number => number,
+        };
+        let drawn = (1..=lengths).map(|length| lines.windows(length).map(drawn).collect()).collect();
         Self { lines: lines.len(), drawn }
     }
 

@@ -21,7 +21,7 @@ use Rattle.player.specs.Calls.{answerOf}
 use Rattle.player.specs.Trace.{traceClocks}
 use Rattle.search.specs.declared.Best.{Best}
 use Rattle.search.specs.declared.Found.the-variants.{At, Refused}
-use Rattle.search.specs.Shortest.{unplayed, lastAnswer, drawnBy, Draws, Least, Never, Answers}
+use Rattle.search.specs.Shortest.{unplayed, lastAnswer, drawnBy, Least, Never, Answers}
 use Rattle.search.specs.ShortestLaws.{less-or}
 use Rattle.search.specs.Search.{Hit, Met, keptOf, foundOf, Sought}
 

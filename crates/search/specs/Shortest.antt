@@ -1,4 +1,4 @@
--- Definitions: the shortest run of consecutive lines that draws a refusal on its last line (requests (h) and (i)).
+-- Definitions: the shortest run of consecutive lines that draws a refusal on its last line (document 02, (h) and (i)).
 use mathlib.Core.Path.{_≡_}
 use mathlib.Core.Bool.{cond}
 use mathlib.Core.List.{List, [], _∷_}

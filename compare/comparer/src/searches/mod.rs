@@ -59,6 +59,18 @@ pub fn compare(options: &Options) -> u64 {
     comparison.differences
 }
 
+/// Which overflow the last of some lines draws by the port's answer lines: 13, or else 7.
+fn overflow(lines: &[&[u8]]) -> u8 {
+    let mut out = vec![0; lines.len() * plain_player::ROOM];
+    let written = port::player::play(&lines.concat(), &mut out);
+    let last = out[..written].trim_ascii_end().rsplit(|byte| *byte == b'\n').next().unwrap_or_default();
+    if last.split(|byte| *byte == b'\t').nth(1) == Some(b"13") {
+        13
+    } else {
+        7
+    }
+}
+
 impl Comparison {
     fn section(&mut self, name: &str, run: impl FnOnce(&mut Self)) {
         let start = Instant::now();
@@ -135,7 +147,7 @@ impl Comparison {
     /// `shortest_run` against the plain search, with every number and limits around the lines that there are.
     fn check(&mut self, trace: &[u8]) {
         self.traces += 1;
-        let runs = Runs::of(trace, MOST);
+        let runs = Runs::of(trace, MOST, overflow);
         let lines = runs.lines() as u16;
         for limit in [LIMIT, lines, lines.saturating_sub(1), u16::MAX] {
             if limit >= lines && runs.lines() > MOST {
@@ -169,7 +181,10 @@ impl Comparison {
             return;
         }
         let both = |trace: &[u8]| {
-            (Runs::of(trace, MOST).shortest(number, limit.into()), port::search::shortest(trace, number, limit))
+            (
+                Runs::of(trace, MOST, overflow).shortest(number, limit.into()),
+                port::search::shortest(trace, number, limit),
+            )
         };
         let mut lines: Vec<&[u8]> = trace.split_inclusive(|byte| *byte == b'\n').collect();
         shrink::shorten(&mut lines, |lines| {
@@ -184,7 +199,7 @@ impl Comparison {
     /// The program against the plain search, for one number.
     fn ask_once(&mut self, trace: &[u8]) {
         let number = self.random.below(u64::from(NUMBERS) + 1) as u8;
-        let plain = Runs::of(trace, MOST).shortest(number, LIMIT.into());
+        let plain = Runs::of(trace, MOST, overflow).shortest(number, LIMIT.into());
         self.ask(trace, &number.to_string(), plain);
     }
 

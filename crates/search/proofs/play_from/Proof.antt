@@ -3,10 +3,10 @@
 use mathlib.Core.Path.{refl, ap}
 use mathlib.Core.Bool.{true}
 use mathlib.Core.Logic.{inl, inr}
-use Prim.Native.Nat.{_-_, _≤_, _<_}
+use Prim.Native.Nat.{_-_, _≤_}
 use native.Mathlib.Omega.{arith}
 use borrow.Author.Needs.{needs}
-use lib.ListN.{length, drop}
+use lib.ListN.{drop}
 use Rattle.player.specs.declared.Player.{Player}
 use Rattle.player.specs.Lines.{linesIn}
 use Rattle.player.specs.LineLaws.{line-within}

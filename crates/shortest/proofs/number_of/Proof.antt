@@ -1,5 +1,7 @@
-use borrow.Author.Needs.{needs}
+-- `shortest::number_of` meets its contract: the number so far is at most 255.
+-- Assumes nothing.
 use Prim.Native.Nat.{_-_, _≤_}
+use borrow.Author.Needs.{needs}
 use lib.ListN.{length}
 use Rattle.shortest.proofs.number_of.Statement.{statement}
 use Rattle.shortest.proofs.number_of.Tie as tie

@@ -1,7 +1,9 @@
+-- `shortest::read_trace` meets its contract: the bytes held lie within the room, and the buffers keep their lengths.
+-- Assumes nothing.
 use mathlib.Core.Path.{_≡_}
 use Prim.Native.Nat.{_≤_}
-use lib.ListN.{length}
 use borrow.Author.Needs.{needs}
+use lib.ListN.{length}
 use Rattle.shortest.proofs.read_trace.Statement.{statement}
 use Rattle.shortest.proofs.read_trace.Tie as tie
 
