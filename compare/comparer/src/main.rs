@@ -8,6 +8,7 @@ mod options;
 mod part;
 mod peripheral;
 mod report;
+mod searches;
 mod shrink;
 mod traces;
 use std::process::ExitCode;
@@ -30,6 +31,7 @@ fn main() -> ExitCode {
             "hosts" => hosts::compare(&options),
             "flags" => flags::compare(&options),
             "traces" => traces::compare(&options),
+            "shortest" => searches::compare(&options),
             _ => peripheral::compare(&options),
         };
     }

@@ -2,8 +2,10 @@
 mod busy;
 mod line;
 mod player;
+mod runs;
 pub use busy::Busy;
 pub use player::Player;
+pub use runs::Runs;
 
 /// After so many lines no more is read.
 pub const MOST_LINES: usize = 1_000_000;

@@ -12,7 +12,7 @@ const MALFORMED: u8 = 4;
 /// Refusal 5.
 const EARLIER: u8 = 5;
 /// Refusals 7 and 13, for which the Rust has one error.
-const OVERFLOW: u8 = 7;
+pub(crate) const OVERFLOW: u8 = 7;
 const HALF_COUNT: u8 = 13;
 /// The address of ICSR.
 const STATUS: u16 = 4;
@@ -74,7 +74,7 @@ impl Player {
     /// and 10 can't come: the clocks hold no zero, and no call leads to a state of those kinds.
     pub fn play(&mut self, line: &[u8], out: &mut Vec<u8>) {
         self.lines += 1;
-        let (refusal, value) = match self.answer(line.strip_suffix(b"\n").unwrap_or(line)) {
+        let (refusal, value) = match self.answer(line) {
             Ok(value) => (0, value),
             Err(OVERFLOW) if self.half_counts.contains(&self.lines) => (HALF_COUNT, Value::None),
             Err(number) => (number, Value::None),
@@ -83,7 +83,13 @@ impl Player {
         writeln!(out, "{number}\t{refusal}\t{value}\t{levels}\t{status:02x}").expect("a vector takes all");
     }
 
+    /// Plays one line, with or without its newline, and gives its refusal, or 0.
+    pub fn draw(&mut self, line: &[u8]) -> u8 {
+        self.answer(line).err().unwrap_or(0)
+    }
+
     fn answer(&mut self, line: &[u8]) -> Result<Value, u8> {
+        let line = line.strip_suffix(b"\n").unwrap_or(line);
         let (now, call) = line::parse(line).ok_or(MALFORMED)?;
         if self.last.is_some_and(|last| now < last) {
             return Err(EARLIER);

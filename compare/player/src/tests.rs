@@ -1,5 +1,5 @@
 use crate::busy::report;
-use crate::{busy, play, Played};
+use crate::{busy, play, Played, Runs};
 
 /// A trace or answer lines with spaces for tabs.
 fn tabs(text: &str) -> Vec<u8> {
@@ -140,4 +140,18 @@ fn reports_on_the_latest_64_lines() {
     for lines in 0..=96 {
         assert_eq!(report(&one[..lines]), usize::from((17..=80).contains(&lines)), "{lines}");
     }
+}
+
+#[test]
+fn the_shortest_run() {
+    // Lines 3 and 5 are earlier than those before them; 1 and 4 are malformed.
+    let trace = tabs("x\n5 0000000000000000 v\n4 0000000000000000 v\nx\n3 0000000000000000 v\n");
+    let runs = Runs::of(&trace, 256, |_| 7);
+    let found = |number| runs.shortest(number, 5);
+    assert_eq!([4, 5, 0, 6, 7].map(found), [Ok((1, 1)), Ok((2, 2)), Err(18), Err(18), Err(18)]);
+    assert_eq!([4, 6].map(|number| runs.shortest(number, 4)), [Err(17); 2]);
+    assert_eq!(Runs::of(b"", 0, |_| 7).shortest(4, 0), Err(18));
+    // Two lines between the time and the earlier one.
+    let apart = Runs::of(&tabs("x\n2 0000000000000000 v\nx\nx\n1 0000000000000000 v\n"), 5, |_| 7);
+    assert_eq!(apart.shortest(5, 5), Ok((2, 4)));
 }

@@ -1,6 +1,7 @@
-//! The port, through the exported functions of the crates probe and player.
+//! The port, through the exported functions of the crates probe, player and search.
 pub mod iic;
 pub mod player;
+pub mod search;
 use words::calls::{Answer, Call, End};
 use words::layout::{Args, Out, Set};
 

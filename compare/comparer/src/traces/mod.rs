@@ -16,7 +16,7 @@ const LINES: usize = 10_000;
 /// Bytes of a trace, or of answers, that are printed.
 const PRINTED: usize = 400;
 /// What a trace is made of, and what it isn't.
-const ALPHABET: &[u8] = b"0123456789abcdef\t\t\t\n\nrwpgvd- A\r";
+pub const ALPHABET: &[u8] = b"0123456789abcdef\t\t\t\n\nrwpgvd- A\r";
 
 struct Comparison {
     random: Random,
