@@ -1,5 +1,5 @@
 // Prints the first line and the length of the shortest run of lines, in the trace on standard input, whose last line draws the refusal number that
-// is the argument; or says on standard error, in one line, why there is none.
+// is the argument, of at most 256 lines, or 32 with `--leaflet`; or says on standard error, in one line, why there is none.
 ghost use Prim.Native.Nat.{_≤_};
 ghost use lib.ListN.{length};
 use search::Found;
@@ -166,16 +166,46 @@ fn search_for(number: u8, limit: u16) {
     }
 }
 
-fn main() {
+// Whether a word is the option `--leaflet`.
+fn is_leaflet(word: &[u8]) -> bool {
+    let option = b"--leaflet";
+    if word.len() != 9 {
+        return false;
+    }
+    let mut i = 0usize;
+    while i < 9 {
+        if word[i] != option[i] {
+            return false;
+        }
+        i += 1;
+    }
+    true
+}
+
+// The search with that limit, for the number that is the argument at that place and the last.
+fn search_by(at: usize, limit: u16)
+    requires { ⌜ at ≤ 2 ⌝ }
+{
     let mut word = io::buffer();
-    let n = os::arg(1, &mut word);
+    let n = os::arg(at, &mut word);
     let asked = number_of(&word[..n]);
-    if os::arg_count() != 2 {
-        say(b"one argument is wanted, NUMBER\n");
+    if os::arg_count() != at + 1 {
+        say(b"[--leaflet] NUMBER is wanted\n");
         return;
     }
     match asked {
-        Asked::Number(number) => search_for(number, 256),
+        Asked::Number(number) => search_for(number, limit),
         Asked::Other => say(b"NUMBER is a decimal number from 0 to 255\n"),
+    }
+}
+
+fn main() {
+    let mut word = io::buffer();
+    let n = os::arg(1, &mut word);
+    let leaflet = is_leaflet(&word[..n]);
+    if leaflet {
+        search_by(2, 32);
+    } else {
+        search_by(1, 256);
     }
 }

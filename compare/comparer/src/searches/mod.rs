@@ -12,8 +12,8 @@ use traffic::trace;
 
 /// The most lines of a trace whose runs are played, each apart.
 const MOST: usize = 256;
-/// The limit of the program.
-const LIMIT: u16 = 256;
+/// The limits of the program, by its option.
+const LIMITS: [(u16, &[&str]); 2] = [(256, &[]), (32, &["--leaflet"])];
 /// The largest number that is asked for.
 const NUMBERS: u8 = 20;
 
@@ -24,7 +24,7 @@ struct Comparison {
     program: Program,
     traces: u64,
     searches: u64,
-    /// Traces that the program was asked about.
+    /// Searches by the program.
     asked: u64,
     /// Answers: runs of one line, of two, of 3 to 9 and of 10 and more; 17; 18.
     answers: [u64; 6],
@@ -94,7 +94,9 @@ impl Comparison {
                 self.differs(&format!("the program with {words:?} says {said:?}"));
             }
         }
-        self.ask(b"\n", "004", Ok((1, 1)));
+        for (_, option) in LIMITS {
+            self.ask(b"\n", option, "004", Ok((1, 1)));
+        }
     }
 
     /// A generated trace cut to every number of lines; in the quick run to those up to 64 and to the last three.
@@ -149,7 +151,7 @@ impl Comparison {
         self.traces += 1;
         let runs = Runs::of(trace, MOST, overflow);
         let lines = runs.lines() as u16;
-        for limit in [LIMIT, lines, lines.saturating_sub(1), u16::MAX] {
+        for limit in [LIMITS[0].0, LIMITS[1].0, lines, lines.saturating_sub(1), u16::MAX] {
             if limit >= lines && runs.lines() > MOST {
                 continue;
             }
@@ -196,18 +198,21 @@ impl Comparison {
         println!("  on {:?}\n  plain {plain:?}\n  port {port:?}", String::from_utf8_lossy(&part));
     }
 
-    /// The program against the plain search, for one number.
+    /// The program against the plain search, for one number and both limits.
     fn ask_once(&mut self, trace: &[u8]) {
         let number = self.random.below(u64::from(NUMBERS) + 1) as u8;
-        let plain = Runs::of(trace, MOST, overflow).shortest(number, LIMIT.into());
-        self.ask(trace, &number.to_string(), plain);
+        let runs = Runs::of(trace, MOST, overflow);
+        for (limit, option) in LIMITS {
+            self.ask(trace, option, &number.to_string(), runs.shortest(number, limit.into()));
+        }
     }
 
-    fn ask(&mut self, trace: &[u8], word: &str, plain: Found) {
+    fn ask(&mut self, trace: &[u8], option: &[&str], number: &str, plain: Found) {
         self.asked += 1;
-        let said = self.program.run(&[word], trace);
+        let words = [option, &[number]].concat();
+        let said = self.program.run(&words, trace);
         if !matches!(&said, Ok((out, error)) if program::says(out, error, plain)) {
-            self.differs(&format!("the program with {word} says {said:?}, plain {plain:?}"));
+            self.differs(&format!("the program with {words:?} says {said:?}, plain {plain:?}"));
         }
     }
 

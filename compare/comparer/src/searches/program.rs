@@ -18,6 +18,12 @@ pub const REFUSED: &[&[&str]] = &[
     &["x"],
     &["4 "],
     &["4", "4"],
+    &["--leaflet"],
+    &["--leaflet", "256"],
+    &["--leaflet", "4", "4"],
+    &["--leaflets", "4"],
+    &["--Leaflet", "4"],
+    &["4", "--leaflet"],
 ];
 
 pub struct Program {
