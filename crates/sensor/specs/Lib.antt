@@ -1,0 +1,6 @@
+pub mod State
+pub mod Leaving
+pub mod Rising
+pub mod Falling
+pub mod Edge
+pub mod Below
