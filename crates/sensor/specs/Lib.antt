@@ -4,3 +4,5 @@ pub mod Rising
 pub mod Falling
 pub mod Edge
 pub mod Below
+pub mod Runs
+pub mod RunLaws
