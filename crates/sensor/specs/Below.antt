@@ -1,6 +1,6 @@
 -- Laws: a test that holds of every number below a limit, by computing it of each; and what so many bits hold.
 use mathlib.Core.Path.{_≡_, refl, ap, sym, subst}
-use mathlib.Core.Bool.{Bool, true, false, cond, _&&_}
+use mathlib.Core.Bool.{Bool, true, false, cond, _&&_, Bool·beq}
 use mathlib.Core.Logic.{⊎-elim}
 use Prim.Native.Nat.{ℕ, zero, suc, _*_, _%_, _^_, _<_}
 use native.Mathlib.Nat.{le-of-suc-le-suc, not-suc-le-zero, eq-or-lt-of-le}
@@ -13,6 +13,12 @@ pub both : (a b : Bool) → (a && b) ≡ true → (a ≡ true) × (b ≡ true)
 both true true e = (refl, refl)
 both true false e = (refl, e)
 both false b e = (e, absurd (omega (arith, ap {B = ℕ} (λ (t : Bool). cond t 1 0) e)))
+
+pub same-truth : (a b : Bool) → Bool·beq a b ≡ true → a ≡ b
+same-truth true true e = refl
+same-truth true false e = sym e
+same-truth false true e = e
+same-truth false false e = refl
 
 -- the test holds of every number below n
 abbrev pub all : (ℕ → Bool) → ℕ → Bool

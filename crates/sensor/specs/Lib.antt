@@ -6,3 +6,6 @@ pub mod Edge
 pub mod Below
 pub mod Runs
 pub mod RunLaws
+pub mod EdgeLaws
+pub mod Bytes
+pub mod ByteLaws
