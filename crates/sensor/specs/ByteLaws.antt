@@ -10,9 +10,9 @@ use Rattle.bus.specs.Bus.{firstBit, isAcknowledge, shiftIn}
 use Rattle.sensor.specs.Below.{all, all-below, same-truth}
 use Rattle.sensor.specs.Bytes.{BytesComeIn, BytesGoOut, OwnAddressOnly, fall, gather, pointed, ready, shown, spell}
 use Rattle.sensor.specs.Edge.{clockedOf, edgeOf}
-use Rattle.sensor.specs.Falling.{acknowledgeOf, fallingOf, followOf, heardOf, launchOf, sendOf, sentBit}
+use Rattle.sensor.specs.Falling.{acknowledgeOf, fallingOf, followOf, heardOf, launchOf, sendOf}
 use Rattle.sensor.specs.Rising.{addressedOf, askedBy, countedOf, ownAddress, readOnOf, risingOf, sampledOf, wholeOf}
-use Rattle.sensor.specs.State.{acknowledging}
+use Rattle.sensor.specs.State.{acknowledging, sentBit}
 use Rattle.sensor.specs.declared.Edge.{Edge}
 use Rattle.sensor.specs.declared.Following.the-variants as following
 use Rattle.sensor.specs.declared.Receive.the-variants as receive

@@ -1,10 +1,10 @@
 -- Definitions: the fall of SCL. Numbers in brackets are lines of devices/bma150/i2c.rs.
-use Prim.Native.Nat.{ℕ, _*_, _%_, _^_}
-use mathlib.Core.Bool.{Bool, true, false, not, cond}
+use Prim.Native.Nat.{ℕ}
+use mathlib.Core.Bool.{true, false, not, cond}
 use lib.Dec.{eqb}
 use Rattle.bus.specs.Bus.{firstBit}
 use Rattle.sensor.specs.Leaving.{asking, plain}
-use Rattle.sensor.specs.State.{abortOf, setLow, setPhase}
+use Rattle.sensor.specs.State.{abortOf, sent, sentBit, setLow, setPhase}
 use Rattle.sensor.specs.declared.Edge.{Edge}
 use Rattle.sensor.specs.declared.Effect.the-variants as effect
 use Rattle.sensor.specs.declared.Following.{Following}
@@ -16,16 +16,6 @@ use Rattle.sensor.specs.declared.Phase.the-variants as phase
 use Rattle.sensor.specs.declared.Receive.the-variants as receive
 use Rattle.sensor.specs.declared.State.{State}
 use Rattle.sensor.specs.declared.Tx.{Tx}
-use Rattle.sensor.specs.declared.Tx.the-variants as tx
-
--- the byte that goes over the line: ff where none was prepared (246, 259)
-abbrev pub sent : Tx → ℕ
-sent tx.NoByte = 0xff
-sent (tx.Byte b) = b
-
--- the bit that goes over the line after n others: the first of what is left of the byte (246)
-unfoldable pub sentBit : ℕ → ℕ → Bool
-sentBit n byte = firstBit (byte * 2 ^ (n % 8) % 256)
 
 -- `i2c_read`: the next byte is prepared, and its first bit shown (257)
 unfoldable pub launchOf : Tx → State → Edge

@@ -2,10 +2,13 @@
 use Prim.Native.Nat.{ℕ, _+_, _*_, _-_, _%_, _^_}
 use mathlib.Core.Bool.{Bool, true, false, not, _&&_, _||_, Bool·beq}
 use lib.Dec.{eqb, ltb}
+use Rattle.bus.specs.Bus.{firstBit}
 use Rattle.sensor.specs.declared.Following.{Following}
 use Rattle.sensor.specs.declared.Phase.{Phase}
 use Rattle.sensor.specs.declared.Phase.the-variants as phase
 use Rattle.sensor.specs.declared.State.{State}
+use Rattle.sensor.specs.declared.Tx.{Tx}
+use Rattle.sensor.specs.declared.Tx.the-variants as tx
 
 -- ## The state with some parts set anew
 
@@ -82,3 +85,14 @@ soundOf (phase.MasterAcknowledge h) s = noBits s && not (s .low)
 -- whether `validate` accepts the state (85)
 unfoldable pub validateOf : Bool → State → Bool
 validateOf available s = ltb (s .pointer) 128 && (available || isIdle (s .phase)) && soundOf (s .phase) s
+
+-- ## The byte to send
+
+-- the byte that goes over the line: ff where none was prepared (246, 259)
+abbrev pub sent : Tx → ℕ
+sent tx.NoByte = 0xff
+sent (tx.Byte b) = b
+
+-- the bit that goes over the line after n others: the first of what is left of the byte (246)
+unfoldable pub sentBit : ℕ → ℕ → Bool
+sentBit n byte = firstBit (byte * 2 ^ (n % 8) % 256)

@@ -1,6 +1,7 @@
 // The fall of SCL.
 ghost use mathlib.Core.Path.{_≡_};
-ghost use Rattle.sensor.specs.Falling.{acknowledgeOf, fallingOf, followOf, heardOf, launchOf, sendOf, sent, sentBit};
+ghost use Rattle.sensor.specs.Falling.{acknowledgeOf, fallingOf, followOf, heardOf, launchOf, sendOf};
+ghost use Rattle.sensor.specs.State.{sent, sentBit};
 use super::Edge;
 use super::Effect;
 use super::Following;

@@ -1,4 +1,4 @@
-use Rattle.sensor.specs.Falling.{sentBit}
+use Rattle.sensor.specs.State.{sentBit}
 use borrow.Author.Needs.{needs}
 use Rattle.sensor.proofs.falling.sent_bit.Statement.{statement}
 use Rattle.sensor.proofs.falling.sent_bit.Tie as tie
