@@ -2,6 +2,7 @@
 //! page names, and that the tables allow it by the row of the test's name.
 mod decided;
 mod peripheral;
+mod sensor;
 use super::{functions, peripheral as machines};
 use crate::inputs::{counted, plain_set, FREQUENCIES as DEFAULT};
 use crate::judge::{self, Judge};
