@@ -1,10 +1,9 @@
 //! The rows for the sensor.
-use crate::differences::sensor::{parting, Call, ROWS};
+use crate::differences::sensor::{parting, Call};
 use crate::sensor::trial::Trial;
 use words::calls::{End, Trap};
 use words::sensor::{self, Given, Left, Rest, Sensor, State, ACKNOWLEDGE, MASTER_ACKNOWLEDGE, READ, RECEIVE};
 
-const HERE: &str = include_str!("sensor.rs");
 const HIGH: [bool; 2] = [true, true];
 const LOW: [bool; 2] = [false, false];
 
@@ -78,11 +77,4 @@ fn previous_scl_that_is_not_the_scl_before() {
     let refused = [false, false];
     assert_eq!(reference::Bma150::made(after).ask().valid, refused);
     assert_eq!(port::sensor::Port::made(after).ask().valid, refused);
-}
-
-#[test]
-fn rows_have_tests() {
-    for name in ROWS {
-        assert!(HERE.contains(&format!("#[test]\nfn {name}() {{")), "{name}");
-    }
 }
