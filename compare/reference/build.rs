@@ -1,10 +1,17 @@
-//! Lays the six files of the Rust, byte for byte, beside stand-ins for the modules that it lacks, in the build folder.
+//! Lays the seven files of the Rust, byte for byte, beside stand-ins for the modules that it lacks, in the build folder.
 //! The folder that holds the Rust is a setting, JETTYPRUNE_SRC.
 use std::path::{Path, PathBuf};
 use std::{env, fs};
 
-const FILES: [&str; 6] =
-    ["time.rs", "state.rs", "mcu/clocks.rs", "mcu/clocks/domain.rs", "mcu/clocks/prescaler.rs", "mcu/iic.rs"];
+const FILES: [&str; 7] = [
+    "time.rs",
+    "state.rs",
+    "mcu/clocks.rs",
+    "mcu/clocks/domain.rs",
+    "mcu/clocks/prescaler.rs",
+    "mcu/iic.rs",
+    "devices/bma150/i2c.rs",
+];
 
 fn main() {
     if let Err(reason) = lay_out() {
@@ -33,7 +40,11 @@ fn lay_out() -> Result<(), String> {
     let cursor = "pub(crate) struct CpuCursor;\npub(crate) struct CpuWindow;\n";
     write(&tree.join("mcu/clocks/cursor.rs"), cursor.as_bytes())?;
     write(&tree.join("mcu/mod.rs"), b"pub mod clocks;\npub mod iic;\n")?;
-    let root = ["time.rs", "state.rs", "mcu/mod.rs"].map(|file| {
+    let rest = format!("#[path = {:?}]\nmod rest;\n", stand_ins.join("bma150.rs"));
+    let sensor = format!("mod i2c;\n{rest}use crate::{{Error, Time}};\npub use rest::Bma150;\n");
+    write(&tree.join("devices/bma150/mod.rs"), sensor.as_bytes())?;
+    write(&tree.join("devices/mod.rs"), b"pub mod bma150;\n")?;
+    let root = ["time.rs", "state.rs", "mcu/mod.rs", "devices/mod.rs"].map(|file| {
         let name = file.split(['/', '.']).next().unwrap_or(file);
         format!("#[allow(dead_code, unused_imports)]\n#[path = {:?}]\npub mod {name};\n", tree.join(file))
     });

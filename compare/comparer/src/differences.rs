@@ -2,6 +2,7 @@
 //! same. A parting that no row allows is a difference.
 pub mod functions;
 pub mod peripheral;
+pub mod sensor;
 #[cfg(test)]
 mod tests;
 use words::calls::{Answer, Call, End, Reference, Trap};

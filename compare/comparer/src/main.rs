@@ -9,6 +9,7 @@ mod part;
 mod peripheral;
 mod report;
 mod searches;
+mod sensor;
 mod shrink;
 mod traces;
 use std::process::ExitCode;
@@ -32,6 +33,7 @@ fn main() -> ExitCode {
             "flags" => flags::compare(&options),
             "traces" => traces::compare(&options),
             "shortest" => searches::compare(&options),
+            "sensor" => sensor::compare(&options),
             _ => peripheral::compare(&options),
         };
     }

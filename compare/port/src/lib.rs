@@ -1,7 +1,8 @@
-//! The port, through the exported functions of the crates probe, player and search.
+//! The port, through the exported functions of the crates probe, player, search and sensor_calls.
 pub mod iic;
 pub mod player;
 pub mod search;
+pub mod sensor;
 use words::calls::{Answer, Call, End};
 use words::layout::{Args, Out, Set};
 

@@ -1,4 +1,4 @@
-//! Stand-in for error.rs: the variants that the six files make.
+//! Stand-in for error.rs: the variants that the files make, and what the stand-in for the rest of the sensor refuses with.
 use crate::time::TimeError;
 
 #[derive(Debug)]
@@ -7,6 +7,7 @@ pub enum Error {
     BadInput(&'static str),
     Snapshot(&'static str),
     Internal(&'static str),
+    Sensor(u8),
 }
 
 impl From<TimeError> for Error {
@@ -16,7 +17,7 @@ impl From<TimeError> for Error {
 }
 
 impl Error {
-    /// The number that document 01 has for the refusal; 255 where it has none.
+    /// The number that document 01 has for the refusal, or that of the rest of the sensor; 255 where it has none.
     pub fn number(&self) -> u8 {
         match self {
             Error::Time(TimeError::ZeroFrequency) => 1,
@@ -27,6 +28,7 @@ impl Error {
             Error::Snapshot("invalid IIC frame progress") => 10,
             Error::Snapshot("zero saved clock divider") => 11,
             Error::Snapshot("invalid IIC interval") => 12,
+            Error::Sensor(number) => *number,
             _ => 255,
         }
     }

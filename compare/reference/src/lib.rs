@@ -5,5 +5,6 @@ pub mod error;
 include!(concat!(env!("OUT_DIR"), "/rust/root.rs"));
 
 pub use bridge::Bridge;
+pub use devices::bma150::Bma150;
 pub use error::Error;
 pub use time::Time;

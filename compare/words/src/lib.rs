@@ -2,6 +2,7 @@
 pub mod calls;
 pub mod iic;
 pub mod layout;
+pub mod sensor;
 
 /// A value that can be written as words.
 pub trait Put {

@@ -2,7 +2,8 @@
 //! page names, and that the tables allow it by the row of the test's name.
 mod decided;
 mod peripheral;
-use super::{functions, peripheral as machines};
+mod sensor;
+use super::{functions, peripheral as machines, sensor as sensors};
 use crate::inputs::{counted, plain_set, FREQUENCIES as DEFAULT};
 use crate::judge::{self, Judge};
 use words::calls::{self, Answer, Call, End, Reference};
@@ -222,6 +223,7 @@ fn a_clock_with_a_zero() {
 const PAGE: &str = include_str!("../../../../docs/DIFFERENCES.md");
 const HERE: &str = include_str!("tests.rs");
 const THERE: &str = include_str!("tests/peripheral.rs");
+const SENSOR: &str = include_str!("tests/sensor.rs");
 
 /// The rows of the tables are rows of the page, by the name of a test that there is.
 #[test]
@@ -231,11 +233,12 @@ fn rows_of_the_tables_are_on_the_page() {
         .into_iter()
         .map(|(name, _, _)| name)
         .chain(machines::names().map(|(name, _)| name))
+        .chain(sensors::ROWS)
         .chain(added)
     {
         assert!(PAGE.lines().any(|line| line.starts_with("| ") && line.contains(&format!("`{name}`"))), "{name}");
         let test = format!("#[test]\nfn {name}() {{");
-        assert!(HERE.contains(&test) || THERE.contains(&test), "{name}");
+        assert!([HERE, THERE, SENSOR].iter().any(|file| file.contains(&test)), "{name}");
     }
 }
 

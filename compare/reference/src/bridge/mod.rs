@@ -32,7 +32,7 @@ impl Reference for Bridge {
 }
 
 /// Runs a call to its end.
-fn ended(call: impl FnOnce() -> Result<(), Error>) -> End {
+pub(crate) fn ended(call: impl FnOnce() -> Result<(), Error>) -> End {
     match catch_unwind(AssertUnwindSafe(call)) {
         Ok(Ok(())) => End::Done,
         Ok(Err(error)) => End::Refused(error.number()),
@@ -49,7 +49,7 @@ fn trap(reason: &(dyn Any + Send)) -> Trap {
     match text {
         "attempt to subtract with overflow" => Trap::Subtract,
         "attempt to add with overflow" => Trap::Overflow,
-        "attempt to shift left with overflow" => Trap::Shift,
+        "attempt to shift left with overflow" | "attempt to shift right with overflow" => Trap::Shift,
         "attempt to divide by zero" => Trap::Divide,
         _ if text.contains("out of bounds") => Trap::Index,
         _ => Trap::Other,

@@ -1,0 +1,11 @@
+pub mod State
+pub mod Leaving
+pub mod Rising
+pub mod Falling
+pub mod Edge
+pub mod Below
+pub mod Runs
+pub mod RunLaws
+pub mod EdgeLaws
+pub mod Bytes
+pub mod ByteLaws
