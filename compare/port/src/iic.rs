@@ -6,8 +6,10 @@ use words::layout::{Args, Out, Set};
 
 unsafe extern "C" {
     fn probe_iic_fresh(state: &mut State);
-    fn probe_iic_call(number: u64, state: &mut State, set: &Set, args: &Args, out: &mut Out);
-    fn probe_iic_ask(number: u64, state: &State, args: &Args, out: &mut Out);
+    fn probe_iic_act(number: u64, state: &mut State, set: &Set, args: &Args, out: &mut Out) -> u64;
+    fn probe_iic_deadline(state: &State, set: &Set, out: &mut Out) -> u64;
+    fn probe_iic_validate(state: &State, args: &Args, out: &mut Out) -> u64;
+    fn probe_iic_observe(state: &State, args: &Args, out: &mut Out) -> u64;
 }
 
 /// The state before the first call.
@@ -21,12 +23,13 @@ pub fn fresh() -> State {
 /// The port's answer to a call, and the state that it leaves.
 pub fn call(call: Call, state: &mut State, set: &Set, args: &Args, out: &mut Answer) {
     // SAFETY: proved functions without a `requires`, declared with the types that they have.
-    unsafe {
-        if call.takes_set() {
-            probe_iic_call(call as u64, state, set, args, &mut out.words);
-        } else {
-            probe_iic_ask(call as u64, state, args, &mut out.words);
+    let refusal = unsafe {
+        match call {
+            Call::Deadline => probe_iic_deadline(state, set, &mut out.words),
+            Call::Validate => probe_iic_validate(state, args, &mut out.words),
+            Call::Observe => probe_iic_observe(state, args, &mut out.words),
+            _ => probe_iic_act(call as u64, state, set, args, &mut out.words),
         }
-    }
-    ended(out);
+    };
+    out.end = ended(refusal);
 }

@@ -127,7 +127,6 @@ pub enum Call {
     TapSubclock,
     TapValidate,
     FrequenciesDefault,
-    ClocksNew,
     ClocksHasZero,
     ClocksTicks,
     ClocksEdge,
@@ -138,12 +137,13 @@ pub enum Call {
     HalfEdge,
     WaitAfter,
     WaitDeadline,
-    WaitPause,
-    WaitResume,
     WaitValidate,
     WaitUses,
     WaitLaterEdge,
     WaitEdgesBefore,
+    ClocksNew,
+    WaitPause,
+    WaitResume,
     WaitSelect,
 }
 

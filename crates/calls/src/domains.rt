@@ -1,14 +1,18 @@
 // The domains.
+ghost use mathlib.Core.Path.{_≡_};
+ghost use Rattle.calls.specs.Told.{Told, newDomainNumber};
 use super::clock_at;
 use super::put_count;
 use super::put_moment;
 use super::put_refusal;
-use super::put_time;
+use super::put_seven;
 use super::time_at;
 use clocks::domain::Domain;
 use clocks::domain::NewDomain;
 
-pub(crate) fn call(number: u64, args: &[u64; 24], out: &mut [u64; 70]) {
+pub(crate) fn call(number: u64, args: &[u64; 24], out: &mut [u64; 70]) -> u64
+    ensures { λ r. ⌜ Told 8 r (now (out .entry)) (now (out .exit)) ⌝ }
+{
     match number {
         18 => put_made(Domain::new(time_at(args, 0), args[2], args[3]), out),
         19 => put_moment(domain_at(args).time(time_at(args, 7)), out),
@@ -26,17 +30,27 @@ fn domain_at(args: &[u64; 24]) -> Domain {
     }
 }
 
-fn put_domain(d: Domain, out: &mut [u64; 70]) {
+fn put_domain(d: Domain, out: &mut [u64; 70]) -> u64
+    ensures { λ r. ⌜ (r ≡ 0) × Told 8 r (now (out .entry)) (now (out .exit)) ⌝ }
+{
     let clock = d.clock;
-    put_time(clock.start, out);
-    out[3] = clock.numerator;
-    out[4] = clock.denominator;
-    out[5] = d.running as u64;
-    out[6] = d.held_at.seconds;
-    out[7] = d.held_at.fraction;
+    let start = clock.start;
+    let held = d.held_at;
+    put_seven(
+        start.seconds,
+        start.fraction,
+        clock.numerator,
+        clock.denominator,
+        d.running as u64,
+        held.seconds,
+        held.fraction,
+        out,
+    )
 }
 
-fn put_made(made: NewDomain, out: &mut [u64; 70]) {
+fn put_made(made: NewDomain, out: &mut [u64; 70]) -> u64
+    ensures { λ r. ⌜ (r ≡ newDomainNumber made) × Told 8 r (now (out .entry)) (now (out .exit)) ⌝ }
+{
     match made {
         NewDomain::Made(d) => put_domain(d, out),
         NewDomain::Refused(n) => put_refusal(n, out),

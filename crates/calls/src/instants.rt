@@ -1,15 +1,20 @@
 // The crate `time`.
+ghost use mathlib.Core.Path.{_≡_};
+ghost use Rattle.calls.specs.Told.{Told, newClockNumber};
 use super::clock_at;
 use super::put_bool;
 use super::put_count;
 use super::put_moment;
 use super::put_refusal;
+use super::put_seven;
 use super::put_time;
 use super::time_at;
 use time::Clock;
 use time::NewClock;
 
-pub(crate) fn call(number: u64, args: &[u64; 24], out: &mut [u64; 70]) {
+pub(crate) fn call(number: u64, args: &[u64; 24], out: &mut [u64; 70]) -> u64
+    ensures { λ r. ⌜ Told 8 r (now (out .entry)) (now (out .exit)) ⌝ }
+{
     match number {
         0 => put_bool(time_at(args, 0).before(time_at(args, 2)), out),
         1 => put_bool(time_at(args, 0).same(time_at(args, 2)), out),
@@ -24,13 +29,25 @@ pub(crate) fn call(number: u64, args: &[u64; 24], out: &mut [u64; 70]) {
     }
 }
 
-fn put_clock(c: Clock, out: &mut [u64; 70]) {
-    put_time(c.start, out);
-    out[3] = c.numerator;
-    out[4] = c.denominator;
+fn put_clock(c: Clock, out: &mut [u64; 70]) -> u64
+    ensures { λ r. ⌜ (r ≡ 0) × Told 8 r (now (out .entry)) (now (out .exit)) ⌝ }
+{
+    let start = c.start;
+    put_seven(
+        start.seconds,
+        start.fraction,
+        c.numerator,
+        c.denominator,
+        0,
+        0,
+        0,
+        out,
+    )
 }
 
-fn put_made(made: NewClock, out: &mut [u64; 70]) {
+fn put_made(made: NewClock, out: &mut [u64; 70]) -> u64
+    ensures { λ r. ⌜ (r ≡ newClockNumber made) × Told 8 r (now (out .entry)) (now (out .exit)) ⌝ }
+{
     match made {
         NewClock::Made(c) => put_clock(c, out),
         NewClock::Refused(n) => put_refusal(n, out),

@@ -1,6 +1,9 @@
 // The port's functions on words, for the comparison with the Rust, each by a number. `compare/words/src/calls.rs` has the
-// numbers, `compare/words/src/layout.rs` says where what lies. An answer starts with the number of its refusal, 0 for none.
+// numbers, `compare/words/src/layout.rs` says where what lies. A call returns the number of its refusal, 0 for none, and an
+// answer starts with it.
+ghost use mathlib.Core.Path.{_≡_};
 ghost use Prim.Native.Nat.{_≤_};
+ghost use Rattle.calls.specs.Told.{Told, momentNumber, countNumber, truthNumber, timeAt};
 
 pub mod clock_waits;
 pub mod domains;
@@ -20,32 +23,30 @@ use time::Moment;
 use time::Time;
 
 // A call that is no peripheral's.
-pub fn call(number: u64, set: &[u64; 69], args: &[u64; 24], out: &mut [u64; 70]) {
+pub fn answer(number: u64, set: &[u64; 69], args: &[u64; 24], out: &mut [u64; 70]) -> u64
+    ensures { λ r. ⌜ Told 8 r (now (out .entry)) (now (out .exit)) ⌝ }
+{
     if number < 10 {
-        instants::call(number, args, out);
-        return;
+        return instants::call(number, args, out);
     }
     if number < 18 {
-        prescalers::call(number, args, out);
-        return;
+        return prescalers::call(number, args, out);
     }
     if number < 23 {
-        domains::call(number, args, out);
-        return;
+        return domains::call(number, args, out);
     }
-    if number < 32 {
-        taps::call(number, args, out);
-        return;
+    if number < 31 {
+        return taps::call(number, args, out);
     }
-    if number < 40 {
-        sets::call(number, set, args, out);
-        return;
+    if number < 39 {
+        return sets::call(number, set, args, out);
     }
-    clock_waits::call(number, set, args, out);
+    clock_waits::call(number, set, args, out)
 }
 
 fn time_at(args: &[u64; 24], at: usize) -> Time
     requires { ⌜ at ≤ 22 ⌝ }
+    ensures { λ r. ⌜ r ≡ timeAt (now (args .entry)) at ⌝ }
 {
     Time {
         seconds: args[at],
@@ -100,49 +101,77 @@ fn tap_at(args: &[u64; 24], at: usize) -> Tap
     tap_of(args[at], args[at + 1])
 }
 
-fn put_time(t: Time, out: &mut [u64; 70]) {
+// The words of an answer that isn't refused, and zeros behind them.
+fn put_seven(a: u64, b: u64, c: u64, d: u64, e: u64, f: u64, g: u64, out: &mut [u64; 70]) -> u64
+    ensures { λ r. ⌜ (r ≡ 0) × Told 8 r (now (out .entry)) (now (out .exit)) ⌝ }
+{
     out[0] = 0;
-    out[1] = t.seconds;
-    out[2] = t.fraction;
+    out[1] = a;
+    out[2] = b;
+    out[3] = c;
+    out[4] = d;
+    out[5] = e;
+    out[6] = f;
+    out[7] = g;
+    0
 }
 
-fn put_moment(m: Moment, out: &mut [u64; 70]) {
+fn put_time(t: Time, out: &mut [u64; 70]) -> u64
+    ensures { λ r. ⌜ (r ≡ 0) × Told 8 r (now (out .entry)) (now (out .exit)) ⌝ }
+{
+    put_seven(t.seconds, t.fraction, 0, 0, 0, 0, 0, out)
+}
+
+fn put_moment(m: Moment, out: &mut [u64; 70]) -> u64
+    ensures { λ r. ⌜ (r ≡ momentNumber m) × Told 8 r (now (out .entry)) (now (out .exit)) ⌝ }
+{
     match m {
         Moment::At(t) => put_time(t, out),
         Moment::Refused(n) => put_refusal(n, out),
     }
 }
 
-fn put_count(c: Count, out: &mut [u64; 70]) {
+fn put_count(c: Count, out: &mut [u64; 70]) -> u64
+    ensures { λ r. ⌜ (r ≡ countNumber c) × Told 8 r (now (out .entry)) (now (out .exit)) ⌝ }
+{
     match c {
         Count::Of(n) => put_word(n, out),
         Count::Refused(n) => put_refusal(n, out),
     }
 }
 
-fn put_truth(t: Truth, out: &mut [u64; 70]) {
+fn put_truth(t: Truth, out: &mut [u64; 70]) -> u64
+    ensures { λ r. ⌜ (r ≡ truthNumber t) × Told 8 r (now (out .entry)) (now (out .exit)) ⌝ }
+{
     match t {
         Truth::Is(b) => put_bool(b, out),
         Truth::Refused(n) => put_refusal(n, out),
     }
 }
 
-fn put_word(n: u64, out: &mut [u64; 70]) {
-    out[0] = 0;
-    out[1] = n;
+fn put_word(n: u64, out: &mut [u64; 70]) -> u64
+    ensures { λ r. ⌜ (r ≡ 0) × Told 8 r (now (out .entry)) (now (out .exit)) ⌝ }
+{
+    put_seven(n, 0, 0, 0, 0, 0, 0, out)
 }
 
-fn put_bool(b: bool, out: &mut [u64; 70]) {
-    put_word(b as u64, out);
+fn put_bool(b: bool, out: &mut [u64; 70]) -> u64
+    ensures { λ r. ⌜ (r ≡ 0) × Told 8 r (now (out .entry)) (now (out .exit)) ⌝ }
+{
+    put_word(b as u64, out)
 }
 
-fn put_refusal(n: u8, out: &mut [u64; 70]) {
-    out[0] = n as u64;
+fn put_refusal(n: u8, out: &mut [u64; 70]) -> u64
+    ensures { λ r. ⌜ (r ≡ n) × Told 8 r (now (out .entry)) (now (out .exit)) ⌝ }
+{
+    let number = n as u64;
+    out[0] = number;
+    number
 }
 
-fn put_tap(tap: Tap, out: &mut [u64; 70]) {
+fn put_tap(tap: Tap, out: &mut [u64; 70]) -> u64
+    ensures { λ r. ⌜ (r ≡ 0) × Told 8 r (now (out .entry)) (now (out .exit)) ⌝ }
+{
     let source = tap.source;
-    out[0] = 0;
-    out[1] = number_of(source);
-    out[2] = tap.divide as u64;
+    put_seven(number_of(source), tap.divide as u64, 0, 0, 0, 0, 0, out)
 }

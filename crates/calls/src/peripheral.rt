@@ -1,4 +1,7 @@
 // The peripheral's calls, with its state as words.
+ghost use mathlib.Core.Path.{_≡_};
+ghost use Rattle.calls.specs.Told.{Told, Begins, registerWords, byteNumber, endedNumber, truthNumber};
+ghost use Rattle.iic.specs.State.{defaultIic};
 use super::clock_waits::put_deadline;
 use super::put_refusal;
 use super::put_truth;
@@ -17,47 +20,108 @@ use iic::ReadOut;
 use iic::Stepped;
 
 // The state before the first call.
-pub fn fresh(state: &mut [u64; 61]) {
-    put_iic(Iic::new(), state);
+pub fn fresh(state: &mut [u64; 61])
+    ensures { λ _. ⌜ Begins (registerWords (defaultIic .registers)) (now (state .exit)) ⌝ }
+{
+    put_iic(Iic::new(), state)
 }
 
-// A call that is handed clocks. What it leaves of the state is written back.
-pub fn call(
+// A call that can change the state. What it leaves of it is written back.
+pub fn act(
     number: u64,
     state: &mut [u64; 61],
     set: &[u64; 69],
     args: &[u64; 24],
     out: &mut [u64; 70],
-) {
-    let iic = iic_of(state);
-    let clocks = clocks_of(set);
-    let now = time_at(args, 0);
-    let address = address_of(args[2]);
+) -> u64
+    ensures { λ r. ⌜ Told 8 r (now (out .entry)) (now (out .exit)) ⌝ }
+{
     match number {
-        0 => put_read(iic.read(address, now, clocks), state, out),
-        1 => put_stepped(
-            iic.write(address, byte_of(args[3]), now, clocks),
-            state,
-            out,
-        ),
-        2 => put_noticed(
-            iic.input_pins(args[2] != 0, args[3] != 0, now, clocks),
-            state,
-            out,
-        ),
-        3 => put_stepped(iic.set_gate(args[2] != 0, now, clocks), state, out),
-        4 => put_stepped(iic.advance(now, clocks), state, out),
-        _ => put_deadline(iic.deadline(clocks), out),
+        0 => read(state, set, args, out),
+        1 => write(state, set, args, out),
+        2 => input_pins(state, set, args, out),
+        3 => set_gate(state, set, args, out),
+        _ => advance(state, set, args, out),
     }
 }
 
-// All that can be asked without a clock: whether the state is sound, or the eight registers, the lines, both interrupts.
-pub fn ask(number: u64, state: &[u64; 61], args: &[u64; 24], out: &mut [u64; 70]) {
+fn read(state: &mut [u64; 61], set: &[u64; 69], args: &[u64; 24], out: &mut [u64; 70]) -> u64
+    ensures { λ r. ⌜ Told 8 r (now (out .entry)) (now (out .exit)) ⌝ }
+{
+    put_read(
+        iic_of(state).read(address_of(args[2]), time_at(args, 0), clocks_of(set)),
+        state,
+        out,
+    )
+}
+
+fn write(state: &mut [u64; 61], set: &[u64; 69], args: &[u64; 24], out: &mut [u64; 70]) -> u64
+    ensures { λ r. ⌜ Told 8 r (now (out .entry)) (now (out .exit)) ⌝ }
+{
+    put_stepped(
+        iic_of(state).write(
+            address_of(args[2]),
+            byte_of(args[3]),
+            time_at(args, 0),
+            clocks_of(set),
+        ),
+        state,
+        out,
+    )
+}
+
+fn input_pins(state: &mut [u64; 61], set: &[u64; 69], args: &[u64; 24], out: &mut [u64; 70]) -> u64
+    ensures { λ r. ⌜ Told 8 r (now (out .entry)) (now (out .exit)) ⌝ }
+{
+    put_noticed(
+        iic_of(state).input_pins(args[2] != 0, args[3] != 0, time_at(args, 0), clocks_of(set)),
+        state,
+        out,
+    )
+}
+
+fn set_gate(state: &mut [u64; 61], set: &[u64; 69], args: &[u64; 24], out: &mut [u64; 70]) -> u64
+    ensures { λ r. ⌜ Told 8 r (now (out .entry)) (now (out .exit)) ⌝ }
+{
+    put_stepped(
+        iic_of(state).set_gate(args[2] != 0, time_at(args, 0), clocks_of(set)),
+        state,
+        out,
+    )
+}
+
+fn advance(state: &mut [u64; 61], set: &[u64; 69], args: &[u64; 24], out: &mut [u64; 70]) -> u64
+    ensures { λ r. ⌜ Told 8 r (now (out .entry)) (now (out .exit)) ⌝ }
+{
+    put_stepped(
+        iic_of(state).advance(time_at(args, 0), clocks_of(set)),
+        state,
+        out,
+    )
+}
+
+pub fn deadline(state: &[u64; 61], set: &[u64; 69], out: &mut [u64; 70]) -> u64
+    ensures { λ r. ⌜ Told 8 r (now (out .entry)) (now (out .exit)) ⌝ }
+{
+    put_deadline(iic_of(state).deadline(clocks_of(set)), out)
+}
+
+pub fn validate(state: &[u64; 61], args: &[u64; 24], out: &mut [u64; 70]) -> u64
+    ensures { λ r. ⌜ Told 8 r (now (out .entry)) (now (out .exit)) ⌝ }
+{
+    put_refusal(iic_of(state).validate(time_at(args, 0)), out)
+}
+
+// What else can be asked without a clock: the eight registers, the lines, both interrupts.
+pub fn observe(state: &[u64; 61], args: &[u64; 24], out: &mut [u64; 70]) -> u64
+    ensures { λ r. ⌜ (r ≡ 0) × Told 14 r (now (out .entry)) (now (out .exit)) ⌝ }
+{
     let iic = iic_of(state);
-    if number == 6 {
-        put_refusal(iic.validate(time_at(args, 0)), out);
-    } else {
-        observe(iic, args[2], byte_of(args[3]), out);
+    let address = args[2];
+    let retained = byte_of(args[3]);
+    match iic.pins() {
+        Pins::NoPins => put_shown(iic, address, retained, 0, 0, 0, out),
+        Pins::Driven(l) => put_shown(iic, address, retained, 1, l.scl as u64, l.sda as u64, out),
     }
 }
 
@@ -65,37 +129,30 @@ fn address_of(n: u64) -> u16 {
     (n % 65536) as u16
 }
 
-fn put_byte(b: Byte, out: &mut [u64; 70]) {
+fn put_byte(b: Byte, out: &mut [u64; 70]) -> u64
+    ensures { λ r. ⌜ (r ≡ byteNumber b) × Told 8 r (now (out .entry)) (now (out .exit)) ⌝ }
+{
     match b {
         Byte::Is(value) => put_word(value as u64, out),
         Byte::Refused(n) => put_refusal(n, out),
     }
 }
 
-fn put_ended(ended: Ended, out: &mut [u64; 70]) {
+fn put_ended(ended: Ended, out: &mut [u64; 70]) -> u64
+    ensures { λ r. ⌜ (r ≡ endedNumber ended) × Told 8 r (now (out .entry)) (now (out .exit)) ⌝ }
+{
     match ended {
         Ended::Finished => put_refusal(0, out),
         Ended::Refused(n) => put_refusal(n, out),
     }
 }
 
-fn put_stepped(stepped: Stepped, state: &mut [u64; 61], out: &mut [u64; 70]) {
+fn put_stepped(stepped: Stepped, state: &mut [u64; 61], out: &mut [u64; 70]) -> u64
+    ensures { λ r. ⌜ (r ≡ endedNumber (stepped .ended)) × Told 8 r (now (out .entry)) (now (out .exit)) ⌝ }
+{
     let ended = stepped.ended;
-    put_ended(ended, out);
     put_iic(stepped.state, state);
-}
-
-fn put_pins(pins: Pins, out: &mut [u64; 70]) {
-    match pins {
-        Pins::NoPins => put_lines(0, 0, 0, out),
-        Pins::Driven(l) => put_lines(1, l.scl as u64, l.sda as u64, out),
-    }
-}
-
-fn put_lines(present: u64, scl: u64, sda: u64, out: &mut [u64; 70]) {
-    out[9] = present;
-    out[10] = scl;
-    out[11] = sda;
+    put_ended(ended, out)
 }
 
 // A register by `peek`, so many addresses on.
@@ -103,20 +160,35 @@ fn shown(iic: Iic, address: u64, on: u64) -> u64 {
     iic.peek(address_of(std::num::wrapping_add_u64(address, on))) as u64
 }
 
-fn put_read(done: ReadOut, state: &mut [u64; 61], out: &mut [u64; 70]) {
+fn put_read(done: ReadOut, state: &mut [u64; 61], out: &mut [u64; 70]) -> u64
+    ensures { λ r. ⌜ (r ≡ byteNumber (done .answer)) × Told 8 r (now (out .entry)) (now (out .exit)) ⌝ }
+{
     let answer = done.answer;
-    put_byte(answer, out);
     put_iic(done.state, state);
+    put_byte(answer, out)
 }
 
-fn put_noticed(done: Noticed, state: &mut [u64; 61], out: &mut [u64; 70]) {
+fn put_noticed(done: Noticed, state: &mut [u64; 61], out: &mut [u64; 70]) -> u64
+    ensures { λ r. ⌜ (r ≡ truthNumber (done .answer)) × Told 8 r (now (out .entry)) (now (out .exit)) ⌝ }
+{
     let answer = done.answer;
-    put_truth(answer, out);
     put_iic(done.state, state);
+    put_truth(answer, out)
 }
 
-fn observe(iic: Iic, address: u64, retained: u8, out: &mut [u64; 70]) {
-    put_refusal(0, out);
+// The registers, whether pins are driven and their levels, and the interrupts.
+fn put_shown(
+    iic: Iic,
+    address: u64,
+    retained: u8,
+    driven: u64,
+    scl: u64,
+    sda: u64,
+    out: &mut [u64; 70],
+) -> u64
+    ensures { λ r. ⌜ (r ≡ 0) × Told 14 r (now (out .entry)) (now (out .exit)) ⌝ }
+{
+    out[0] = 0;
     out[1] = shown(iic, address, 0);
     out[2] = shown(iic, address, 1);
     out[3] = shown(iic, address, 2);
@@ -125,7 +197,10 @@ fn observe(iic: Iic, address: u64, retained: u8, out: &mut [u64; 70]) {
     out[6] = shown(iic, address, 5);
     out[7] = shown(iic, address, 6);
     out[8] = shown(iic, address, 7);
-    put_pins(iic.pins(), out);
+    out[9] = driven;
+    out[10] = scl;
+    out[11] = sda;
     out[12] = iic.interrupt() as u64;
     out[13] = iic.interrupt_with_enable(retained) as u64;
+    0
 }

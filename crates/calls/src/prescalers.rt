@@ -1,4 +1,5 @@
 // The prescalers.
+ghost use Rattle.calls.specs.Told.{Told};
 use super::half_word;
 use super::put_count;
 use super::put_truth;
@@ -6,7 +7,9 @@ use clocks::prescaler::Divider;
 use clocks::prescaler::PrescalerS;
 use clocks::prescaler::PrescalerW;
 
-pub(crate) fn call(number: u64, args: &[u64; 24], out: &mut [u64; 70]) {
+pub(crate) fn call(number: u64, args: &[u64; 24], out: &mut [u64; 70]) -> u64
+    ensures { λ r. ⌜ Told 8 r (now (out .entry)) (now (out .exit)) ⌝ }
+{
     match number {
         10 => put_count(
             PrescalerS::crossings(phase_of(args[0]), args[2], half_word(args[1])),

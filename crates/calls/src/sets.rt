@@ -1,5 +1,6 @@
 // The clock sets.
 ghost use Prim.Native.Nat.{_≤_};
+ghost use Rattle.calls.specs.Told.{Told};
 use super::prescalers::divider_of;
 use super::put_bool;
 use super::put_count;
@@ -14,19 +15,21 @@ use clocks::prescaler::PrescalerW;
 use time::Clock;
 use time::Time;
 
-pub(crate) fn call(number: u64, set: &[u64; 69], args: &[u64; 24], out: &mut [u64; 70]) {
+pub(crate) fn call(number: u64, set: &[u64; 69], args: &[u64; 24], out: &mut [u64; 70]) -> u64
+    ensures { λ r. ⌜ Told 8 r (now (out .entry)) (now (out .exit)) ⌝ }
+{
     let clocks = clocks_of(set);
     match number {
-        32 => put_bool(clocks.has_zero(), out),
-        33 => put_count(clocks.ticks(time_at(args, 2), tap_at(args, 0)), out),
-        34 => put_moment(clocks.edge(args[2], tap_at(args, 0)), out),
-        35 => put_moment(
+        31 => put_bool(clocks.has_zero(), out),
+        32 => put_count(clocks.ticks(time_at(args, 2), tap_at(args, 0)), out),
+        33 => put_moment(clocks.edge(args[2], tap_at(args, 0)), out),
+        34 => put_moment(
             clocks.after(time_at(args, 2), args[4], tap_at(args, 0)),
             out,
         ),
-        36 => put_truth(clocks.available(tap_at(args, 0)), out),
-        37 => put_truth(clocks.high(time_at(args, 2), tap_at(args, 0)), out),
-        38 => put_count(clocks.system_half_ticks(time_at(args, 0)), out),
+        35 => put_truth(clocks.available(tap_at(args, 0)), out),
+        36 => put_truth(clocks.high(time_at(args, 2), tap_at(args, 0)), out),
+        37 => put_count(clocks.system_half_ticks(time_at(args, 0)), out),
         _ => put_moment(clocks.system_half_edge(args[0]), out),
     }
 }

@@ -1,5 +1,8 @@
 // The peripheral's state of words, and back. `compare/words/src/iic.rs` says where what lies.
+ghost use mathlib.Core.Path.{_≡_};
 ghost use Prim.Native.Nat.{_≤_};
+ghost use lib.Seq.{sets};
+ghost use Rattle.calls.specs.Told.{Begins, registerWords};
 use super::clock_waits::state_of;
 use super::number_of;
 use super::tap_of;
@@ -173,7 +176,9 @@ pub(crate) fn iic_of(w: &[u64; 61]) -> Iic {
     }
 }
 
-fn put_registers(r: Registers, w: &mut [u64; 61]) {
+fn put_registers(r: Registers, w: &mut [u64; 61])
+    ensures { λ _. ⌜ now (w .exit) ≡ sets (now (w .entry)) 0 (registerWords r) ⌝ }
+{
     w[0] = r.control as u64;
     w[1] = r.mode as u64;
     w[2] = r.count as u64;
@@ -350,13 +355,14 @@ fn put_waits(iic: Iic, w: &mut [u64; 61]) {
     put_wait(setup_wait, w, 32);
 }
 
-pub(crate) fn put_iic(iic: Iic, w: &mut [u64; 61]) {
+pub(crate) fn put_iic(iic: Iic, w: &mut [u64; 61])
+    ensures { λ _. ⌜ Begins (registerWords (iic .registers)) (now (w .exit)) ⌝ }
+{
     let frame = iic.frame;
     let condition = iic.condition;
     let command = iic.command;
     let hold = iic.hold;
     let eighth_fall = iic.eighth_fall;
-    put_registers(iic.registers, w);
     put_lines(iic.lines, w);
     put_flags(iic.flags, w);
     put_frame(frame, w);
@@ -365,4 +371,5 @@ pub(crate) fn put_iic(iic: Iic, w: &mut [u64; 61]) {
     put_hold(hold, w);
     put_fall(eighth_fall, w);
     put_waits(iic, w);
+    put_registers(iic.registers, w);
 }

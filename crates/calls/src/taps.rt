@@ -1,16 +1,21 @@
 // The taps, the default frequencies and new clock sets.
+ghost use mathlib.Core.Path.{_≡_};
+ghost use Rattle.calls.specs.Told.{Told, timeAt, frequenciesAt};
+ghost use Rattle.clocks.specs.Clocks.{newClocks};
 use super::half_word;
 use super::put_refusal;
+use super::put_seven;
 use super::put_tap;
 use super::sets::put_clocks;
 use super::tap_at;
 use super::time_at;
 use clocks::Clocks;
 use clocks::Frequencies;
-use clocks::NewClocks;
 use clocks::tap::Tap;
 
-pub(crate) fn call(number: u64, args: &[u64; 24], out: &mut [u64; 70]) {
+pub(crate) fn call(number: u64, args: &[u64; 24], out: &mut [u64; 70]) -> u64
+    ensures { λ r. ⌜ Told 8 r (now (out .entry)) (now (out .exit)) ⌝ }
+{
     match number {
         23 => put_tap(Tap::cpu(), out),
         24 => put_tap(Tap::system(half_word(args[0])), out),
@@ -19,12 +24,24 @@ pub(crate) fn call(number: u64, args: &[u64; 24], out: &mut [u64; 70]) {
         27 => put_tap(Tap::oscillator(), out),
         28 => put_tap(Tap::subclock(), out),
         29 => put_refusal(tap_at(args, 0).validate(), out),
-        30 => put_frequencies(Frequencies::default(), out),
-        _ => put_made(Clocks::new(time_at(args, 0), frequencies_at(args)), out),
+        _ => put_frequencies(Frequencies::default(), out),
     }
 }
 
-fn frequencies_at(args: &[u64; 24]) -> Frequencies {
+// A new clock set, which is written where it is refused, too.
+pub fn new_clocks(args: &[u64; 24], out: &mut [u64; 70]) -> u64
+    ensures { λ r. ⌜ r ≡ newClocks (timeAt (now (args .entry)) 0) (frequenciesAt (now (args .entry))) .refusal ⌝ }
+{
+    let made = Clocks::new(time_at(args, 0), frequencies_at(args));
+    let number = made.refusal as u64;
+    out[0] = number;
+    put_clocks(made.clocks, out);
+    number
+}
+
+fn frequencies_at(args: &[u64; 24]) -> Frequencies
+    ensures { λ r. ⌜ r ≡ frequenciesAt (now (args .entry)) ⌝ }
+{
     Frequencies {
         main_hz: args[2],
         watch_hz: args[3],
@@ -32,14 +49,8 @@ fn frequencies_at(args: &[u64; 24]) -> Frequencies {
     }
 }
 
-fn put_frequencies(f: Frequencies, out: &mut [u64; 70]) {
-    out[0] = 0;
-    out[1] = f.main_hz;
-    out[2] = f.watch_hz;
-    out[3] = f.on_chip_hz;
-}
-
-fn put_made(made: NewClocks, out: &mut [u64; 70]) {
-    put_clocks(made.clocks, out);
-    put_refusal(made.refusal, out);
+fn put_frequencies(f: Frequencies, out: &mut [u64; 70]) -> u64
+    ensures { λ r. ⌜ (r ≡ 0) × Told 8 r (now (out .entry)) (now (out .exit)) ⌝ }
+{
+    put_seven(f.main_hz, f.watch_hz, f.on_chip_hz, 0, 0, 0, 0, out)
 }

@@ -1,37 +1,90 @@
-// What a Rust program calls of the port, for the comparison and the benchmark.
+// What a Rust program calls of the port, for the comparison and the benchmark. What it calls returns the number of its refusal,
+// 0 for none.
+ghost use mathlib.Core.Path.{_≡_};
+ghost use Rattle.calls.specs.Told.{Told, Written, Begins, registerWords, timeAt, frequenciesAt};
+ghost use Rattle.clocks.specs.Clocks.{newClocks};
+ghost use Rattle.iic.specs.State.{defaultIic};
+
 pub mod bench;
 
 // A call that is no peripheral's.
 #[no_mangle]
-pub extern "C" fn probe_call(number: u64, set: &[u64; 69], args: &[u64; 24], out: &mut [u64; 70]) {
-    calls::call(number, set, args, out);
+pub extern "C" fn probe_answer(
+    number: u64,
+    set: &[u64; 69],
+    args: &[u64; 24],
+    out: &mut [u64; 70],
+) -> u64
+    ensures { λ r. ⌜ Told 8 r (now (out .entry)) (now (out .exit)) ⌝ }
+{
+    calls::answer(number, set, args, out)
+}
+
+// A new clock set.
+#[no_mangle]
+pub extern "C" fn probe_new_clocks(args: &[u64; 24], out: &mut [u64; 70]) -> u64
+    ensures { λ r. ⌜ r ≡ newClocks (timeAt (now (args .entry)) 0) (frequenciesAt (now (args .entry))) .refusal ⌝ }
+{
+    calls::taps::new_clocks(args, out)
+}
+
+// A call that changes a wait.
+#[no_mangle]
+pub extern "C" fn probe_turn(
+    number: u64,
+    set: &[u64; 69],
+    args: &[u64; 24],
+    out: &mut [u64; 70],
+) -> u64
+    ensures { λ r. ⌜ Written 8 r (now (out .entry)) (now (out .exit)) ⌝ }
+{
+    calls::clock_waits::turn(number, set, args, out)
 }
 
 // The peripheral's state before the first call.
 #[no_mangle]
-pub extern "C" fn probe_iic_fresh(state: &mut [u64; 61]) {
-    calls::peripheral::fresh(state);
+pub extern "C" fn probe_iic_fresh(state: &mut [u64; 61])
+    ensures { λ _. ⌜ Begins (registerWords (defaultIic .registers)) (now (state .exit)) ⌝ }
+{
+    calls::peripheral::fresh(state)
 }
 
-// A call of the peripheral that is handed clocks.
+// A call of the peripheral that can change its state.
 #[no_mangle]
-pub extern "C" fn probe_iic_call(
+pub extern "C" fn probe_iic_act(
     number: u64,
     state: &mut [u64; 61],
     set: &[u64; 69],
     args: &[u64; 24],
     out: &mut [u64; 70],
-) {
-    calls::peripheral::call(number, state, set, args, out);
+) -> u64
+    ensures { λ r. ⌜ Told 8 r (now (out .entry)) (now (out .exit)) ⌝ }
+{
+    calls::peripheral::act(number, state, set, args, out)
 }
 
-// A question to the peripheral.
 #[no_mangle]
-pub extern "C" fn probe_iic_ask(
-    number: u64,
+pub extern "C" fn probe_iic_deadline(state: &[u64; 61], set: &[u64; 69], out: &mut [u64; 70]) -> u64
+    ensures { λ r. ⌜ Told 8 r (now (out .entry)) (now (out .exit)) ⌝ }
+{
+    calls::peripheral::deadline(state, set, out)
+}
+
+#[no_mangle]
+pub extern "C" fn probe_iic_validate(
     state: &[u64; 61],
     args: &[u64; 24],
     out: &mut [u64; 70],
-) {
-    calls::peripheral::ask(number, state, args, out);
+) -> u64
+    ensures { λ r. ⌜ Told 8 r (now (out .entry)) (now (out .exit)) ⌝ }
+{
+    calls::peripheral::validate(state, args, out)
+}
+
+// What else can be asked of the peripheral.
+#[no_mangle]
+pub extern "C" fn probe_iic_observe(state: &[u64; 61], args: &[u64; 24], out: &mut [u64; 70]) -> u64
+    ensures { λ r. ⌜ (r ≡ 0) × Told 14 r (now (out .entry)) (now (out .exit)) ⌝ }
+{
+    calls::peripheral::observe(state, args, out)
 }

@@ -20,13 +20,28 @@ const PLAYS: usize = 5;
 const RATES: [(u64, u64); 3] = [(3_686_400, 1), (32_768, 8), (6_000_000_000, 1)];
 
 #[inline(never)]
-extern "C" fn rust_after(clock: &Clock, edges: u64) -> u64 {
-    clock.after(edges).map_or(0, |t| ((t.raw() >> 64) as u64).wrapping_add(t.raw() as u64))
+extern "C" fn rust_after(clock: &Clock, edges: u64, out: &mut [u64; 2]) -> u64 {
+    match clock.after(edges) {
+        Ok(t) => {
+            *out = words::layout::halves(t.raw());
+            0
+        }
+        // Past the last time, which is all that it refuses.
+        Err(_) => 7,
+    }
 }
 
 #[inline(never)]
-extern "C" fn rust_edges_before(clock: &Clock, seconds: u64, fraction: u64) -> u64 {
-    clock.edges_before(Time::from_raw(words::layout::joined(seconds, fraction)))
+extern "C" fn rust_edges_before(clock: &Clock, seconds: u64, fraction: u64, out: &mut [u64; 1]) -> u64 {
+    *out = [clock.edges_before(Time::from_raw(words::layout::joined(seconds, fraction)))];
+    0
+}
+
+/// One number for a call's answer: that of its refusal and the words that it wrote.
+fn told<const N: usize>(call: impl FnOnce(&mut [u64; N]) -> u64) -> u64 {
+    let mut out = [0; N];
+    let refusal = call(&mut out);
+    out.iter().fold(refusal, |sum, word| sum.wrapping_add(*word))
 }
 
 /// Nanoseconds for some calls, and the sum of the answers.
@@ -110,16 +125,16 @@ fn clocks() -> Result<(), String> {
             let times = race(
                 &edges,
                 // SAFETY: a proved function without a `requires`, declared with the types that it has.
-                |n| unsafe { port::probe_after(5, 0, numerator, denominator, n) },
-                |n| rust_after(&clock, n),
+                |n| told(|out| unsafe { port::probe_after(5, 0, numerator, denominator, n, out) }),
+                |n| told(|out| rust_after(&clock, n, out)),
             )?;
             row("Clock::after", span, rate, times);
             let limits: Vec<(u64, u64)> = (0..INPUTS).map(|_| (5 + random.below(seconds), random.word())).collect();
             let times = race(
                 &limits,
                 // SAFETY: as above.
-                |(s, f)| unsafe { port::probe_edges_before(5, 0, numerator, denominator, s, f) },
-                |(s, f)| rust_edges_before(&clock, s, f),
+                |(s, f)| told(|out| unsafe { port::probe_edges_before(5, 0, numerator, denominator, s, f, out) }),
+                |(s, f)| told(|out| rust_edges_before(&clock, s, f, out)),
             )?;
             row("Clock::edges_before", span, rate, times);
         }
