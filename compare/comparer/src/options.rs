@@ -72,7 +72,7 @@ impl Options {
 
 #[cfg(test)]
 mod tests {
-    use super::{read, Options};
+    use super::{read, Options, PARTS};
 
     fn of(line: &str) -> Result<Vec<(&'static str, Options)>, String> {
         read(line.split_whitespace().map(str::to_string))
@@ -84,7 +84,7 @@ mod tests {
         assert_eq!(of("--part iic --from made"), Ok(vec![("iic", given(1, 1_000_000, false, "made"))]));
         assert_eq!(of("--quick --part traces"), Ok(vec![("traces", given(20_102, 1_500_000, true, "all"))]));
         assert_eq!(of("--seed 7 --count 1_000 --part time --quick"), Ok(vec![("time", given(7, 1_000, true, "all"))]));
-        assert_eq!(of("").map(|parts| parts.len()), Ok(6));
+        assert_eq!(of("").map(|parts| parts.len()), Ok(PARTS.len()));
     }
 
     #[test]

@@ -150,7 +150,7 @@ impl Machine {
         let Some(parting) = rows::parting(call, &handed, plain, checked) else {
             return differs(call, format!("no row of docs/DIFFERENCES.md: plain {plain:?}, checked {checked:?}"));
         };
-        self.parted.push(Parted { call, ends: [plain, checked, port].map(Some), row: parting.row });
+        self.parted.push(Parted { call, ends: [plain, checked, port.as_rust()].map(Some), row: parting.row });
         self.parts(call, parting, &handed)
     }
 
@@ -169,7 +169,7 @@ impl Machine {
     /// Whether the port did as the row has it. A build whose state isn't what the row wants is given the port's.
     fn parts(&mut self, call: Call, parting: Parting, handed: &Handed) -> Result<(), Difference> {
         let [port, plain, _] = &self.answers;
-        if port.end != parting.end {
+        if port.end.as_rust() != parting.end {
             return differs(call, format!("{:?} expected by {}, port {:?}", parting.end, parting.row, port.end));
         }
         if port.end == End::Done && port.words[1..=call.gives()] != plain.words[1..=call.gives()] {

@@ -154,7 +154,7 @@ mod tests {
             Rare::default().print(&Tally::default(), options)
         };
         assert_eq!(missing("999999", "all"), 0);
-        assert_eq!(["all", "default", "made"].map(|from| missing("1000000", from)), [37, 29, 8]);
+        assert_eq!(["all", "default", "made"].map(|from| missing("1000000", from)), [38, 30, 8]);
     }
 
     /// The visits beside and at a deadline, and the read at the eighth fall, are told from their neighbours.

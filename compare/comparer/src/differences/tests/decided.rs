@@ -63,7 +63,8 @@ fn states(run: &[Step]) -> Vec<State> {
     let mut out = [0; 4096];
     let written = port::player::play(trace.as_bytes(), &mut out);
     assert_eq!(String::from_utf8_lossy(&out[..written]), answers);
-    assert_eq!(String::from_utf8(plain_player::play(trace.as_bytes(), out.len()).bytes).unwrap(), answers);
+    let plain = plain_player::play_like(answers.as_bytes(), trace.as_bytes(), out.len());
+    assert_eq!(String::from_utf8(plain.bytes).unwrap(), answers);
     let set = ClockSet::new(plain_set(0, DEFAULT));
     let mut machine = Machine::fresh().unwrap();
     run.iter()

@@ -187,7 +187,7 @@ fn prescaler_sum_of_a_wait() {
 fn refused_later(row: &'static str, mut set: Set, now: [u64; 2]) {
     let mut state = port::iic::fresh();
     put_half(&mut state, TOP, true);
-    let left = check(row, Call::SetGate, &state, &set, &args(now, [1, 0]), ["7", BELOW_ZERO, "7"]);
+    let left = check(row, Call::SetGate, &state, &set, &args(now, [1, 0]), ["7", BELOW_ZERO, "13"]);
     assert_eq!(left.plain, left.port);
     state[iic::GATE] = 1;
     put_half(&mut state, 0, false);
@@ -198,7 +198,7 @@ fn refused_later(row: &'static str, mut set: Set, now: [u64; 2]) {
     put_wait(&mut state, iic::FILTER_WAIT, [0, 1, READY, now[0], now[1]]);
     state[iic::SYNCHRONIZED_HOLD] = 1;
     put_half(&mut state, TOP, true);
-    let left = check(row, Call::Advance, &state, &set, &args(now, [0, 0]), ["7", BELOW_ZERO, "7"]);
+    let left = check(row, Call::Advance, &state, &set, &args(now, [0, 0]), ["7", BELOW_ZERO, "13"]);
     assert_eq!(left.plain, left.port);
     // It does; but the setup wait's edge was given at the anchor of its prescaler.
     put_half(&mut state, 0, true);

@@ -99,7 +99,7 @@ fn changes_of_the_port(case: &Case, end: End) {
     for place in 1..=gives {
         case.is_caught(&format!("answer word {place}"), &|machine| machine.answers[0].words[place] ^= 1);
     }
-    for other in ends().filter(|other| other.as_rust() != end) {
+    for other in ends().filter(|other| other.as_rust() != end.as_rust()) {
         case.is_caught(&format!("{other:?}"), &|machine| machine.answers[0].end = other);
     }
 }
@@ -110,7 +110,7 @@ fn changes_of_the_rust(case: &Case, end: End, side: usize) {
     for place in 1..=gives {
         case.is_caught(&format!("word {place} of {side}"), &|machine| machine.answers[side].words[place] ^= 1);
     }
-    for other in ends().filter(|other| *other != end) {
+    for other in ends().filter(|other| *other != end.as_rust()) {
         case.is_caught(&format!("{other:?} of {side}"), &|machine| machine.answers[side].end = other);
     }
     // The registers, the flags and the levels; of what is absent a changed word is no change.
