@@ -5,8 +5,6 @@ use Rattle.clocks.specs.Clocks.{hasZero}
 use Rattle.clocks.specs.Domain.{domainTicks, runningFrom}
 use Rattle.clocks.specs.declared.Clocks.{Clocks}
 use Rattle.frames.specs.Mirror.{mirrorOf, ordered}
-use Rattle.frames.specs.declared.Framing.the-variants.{InFrame}
-use Rattle.frames.specs.declared.Phase.the-variants.{Data}
 use Rattle.iic.specs.Reading.{readAt}
 use Rattle.iic.specs.Writing.{sendOnOf, writeAt, writeControlOf, writeDataOf}
 use Rattle.iic.specs.Answers.{guarded}
@@ -18,8 +16,8 @@ use Rattle.iic.specs.declared.Pins.the-variants.{Driven, NoPins}
 use Rattle.iic.specs.declared.Pins.{Pins}
 use Rattle.iic.specs.Reading.{peekAt, registerAt}
 use Rattle.iic.specs.Writing.{controlSet, giveDataOf, redirected, takeControlOf, writeEnableOf, writeModeOf, writeStatusOf}
-use Rattle.iic.specs.Setters.{setAddress, setFrame}
-use Rattle.iic.specs.Shift.{addressedOf, lastBitOf, matchedOf, risingDataOf, risingOf, selectOf, whenLostOf}
+use Rattle.iic.specs.Setters.{setAddress}
+use Rattle.iic.specs.Shift.{addressedOf, beginFrameOf, lastBitOf, loadTransmitOf, matchedOf, risingDataOf, risingOf, selectOf, whenLostOf}
 use Rattle.time.specs.Clock.{afterOf, edgeOf, edgesBeforeOf, zeroIn}
 use Rattle.time.specs.Laws.{edges-before-is}
 use Rattle.time.specs.Time.{momentOf, nextTime, timeOf}
@@ -69,10 +67,11 @@ third = record { start = at 0; numerator = 3; denominator = 1 }
 abbrev ticksAt : ℕ → Count
 ticksAt f = domainTicks (runningFrom (at 0) third) (at f)
 
--- seven bits of an address byte are in
+-- the bits of the byte a1 on SDA at eight rising edges of SCL, from a frame as `begin_frame` makes it, with SAR a0
 abbrev addressed : Iic
 addressed =
-    setAddress 0xa0 (setFrame (InFrame (record { shift = 0x50; remaining = 1; phase = Data; address = true; transmit = false; loaded = true; last = false })) defaultIic)
+    risingOf true (risingOf false (risingOf false (risingOf false (risingOf false (risingOf true (risingOf false (risingOf true
+    (beginFrameOf true (setAddress 0xa0 defaultIic)))))))))
 
 -- the rows, by what a write of a byte and a read leave
 unfoldable pub rowsOf : (ℕ → ℕ → Iic → Iic) → (ℕ → Iic → Iic) → List Row
@@ -97,8 +96,8 @@ rowsOf wrote saw =
     -- a running domain's count at 5555555555555554 is 0, one later 1
     ∷ row (number (ticksAt 0x5555555555555554)) 0 ∷ row (number (ticksAt 0x5555555555555555)) 1
     -- SAR a0, address byte a1: selected, ICCR1 bit 4 set
-    ∷ row (flag (risingOf true addressed .flags .selected) 1) 1
-    ∷ row (risingOf true addressed .registers .control) 0x10
+    ∷ row (flag (addressed .flags .selected) 1) 1
+    ∷ row (addressed .registers .control) 0x10
     ∷ []
 
 abbrev pub AllHold : List Row → Type 0
@@ -116,7 +115,7 @@ module _ (now : Time) (k : Clocks) where
 
   -- every row shows what document 01 has, over any clock set without a zero, at any time
   pub rows-hold : hasZero k ≡ false → AllHold rows
-  unfolding rowsOf registerAt peekAt readAt writeAt controlSet redirected takeControlOf writeControlOf writeModeOf writeEnableOf writeStatusOf giveDataOf sendOnOf writeDataOf peekOf readOf writeOf kickOf mirrorOf ordered risingOf risingDataOf whenLostOf lastBitOf addressedOf matchedOf selectOf defaultIic stopShifterOf rate periodOf afterOf edgeOf momentOf zeroIn domainTicks nextTime edgesBeforeOf
+  unfolding rowsOf beginFrameOf loadTransmitOf registerAt peekAt readAt writeAt controlSet redirected takeControlOf writeControlOf writeModeOf writeEnableOf writeStatusOf giveDataOf sendOnOf writeDataOf peekOf readOf writeOf kickOf mirrorOf ordered risingOf risingDataOf whenLostOf lastBitOf addressedOf matchedOf selectOf defaultIic stopShifterOf rate periodOf afterOf edgeOf momentOf zeroIn domainTicks nextTime edgesBeforeOf
   rows-hold free =
       subst (λ (z : Bool). AllHold (rowsBy z)) (sym free)
       (rw (edges-before-is third 0x5555555555555555 (lit< tt) (lit< tt), edges-before-is third 0x5555555555555556 (lit< tt) (lit< tt)) refl)
