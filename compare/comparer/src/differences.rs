@@ -78,6 +78,7 @@ pub fn row_added(number: u8) -> &'static str {
         3 => "stage_out_of_range",
         9 => "count_or_mode_out_of_range",
         10 => "a_frame_without_bits_to_go",
+        14 => "a_rate_set_out_of_range",
         _ => unreachable!("no refusal {number} is added to the Rust's"),
     }
 }

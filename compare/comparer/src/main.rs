@@ -34,6 +34,7 @@ fn main() -> ExitCode {
             "traces" => traces::compare(&options),
             "shortest" => searches::compare(&options),
             "sensor" => sensor::compare(&options),
+            "rates" => peripheral::compare_rates(&options),
             _ => peripheral::compare(&options),
         };
     }

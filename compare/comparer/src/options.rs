@@ -12,7 +12,7 @@ pub struct Options {
 }
 
 /// What can be compared by itself, and the count of each in the quick run.
-const PARTS: [(&str, u64); 8] = [
+const PARTS: [(&str, u64); 9] = [
     ("time", 4_000_000),
     ("clocks", 4_000_000),
     ("iic", 5_000_000),
@@ -21,6 +21,7 @@ const PARTS: [(&str, u64); 8] = [
     ("traces", 1_500_000),
     ("shortest", 50_000),
     ("sensor", 5_000_000),
+    ("rates", 2_000_000),
 ];
 /// Where runs of the peripheral can begin.
 const ORIGINS: [&str; 2] = ["default", "made"];

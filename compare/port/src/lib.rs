@@ -1,4 +1,5 @@
-//! The port, through the exported functions of the crates probe, player, search and sensor_calls.
+//! The port, through the exported functions of the crates probe, player, search and sensor_calls, and of those that
+//! requests under way add.
 pub mod iic;
 pub mod player;
 pub mod search;

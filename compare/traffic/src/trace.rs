@@ -4,9 +4,11 @@ use crate::host::{self, Host};
 use crate::random::Random;
 use crate::spoil;
 use plain_player::Player;
-use reference::{Bridge, Time};
-use words::iic::{Call, Peripheral, State, STATE};
+use reference::Time;
+use words::iic::{self, Call, State};
 use words::layout::{self, Args};
+use words::rates::Rates;
+use words::Put;
 
 /// The system clock: its start, numerator and denominator.
 const CLOCK: exact::Clock = [0, 0, 3_686_400, 1];
@@ -64,7 +66,7 @@ impl Generator {
         };
         let host = Host::taking_over(&mut random, begin, CLOCK);
         let player = Player::default();
-        let state = [0; STATE];
+        let state = iic::blank(&Rates::DEFAULT);
         Self { random, player, host, left: 0, state, words: Vec::new(), answers: Vec::new(), met: Met::default() }
     }
 
@@ -91,8 +93,9 @@ impl Generator {
         let last = self.player.last();
         self.player.play(&out[start..], &mut self.answers);
         self.count(last, &out[start..]);
-        Bridge::words(self.player.iic(), &mut self.words);
-        self.state.copy_from_slice(&self.words);
+        self.words.clear();
+        self.player.iic().put(&mut self.words);
+        self.state[..iic::FIELDS].copy_from_slice(&self.words);
         self.host.reach(self.player.last().map_or(0, |at| at.raw()));
         self.host.saw(self.player.deadline().map(|at| at.raw()));
     }

@@ -1,6 +1,8 @@
-//! The peripheral: where the words of its state lie, which is the order of the Rust's fields, and its calls.
+//! The peripheral: where the words of its state lie, which is the order of the Rust's fields and then the rate set, and its
+//! calls.
 use crate::calls::{Answer, Reference};
 use crate::layout::{self, Args, WAIT};
+use crate::rates::{self, Rates};
 
 pub const CONTROL: usize = 0;
 pub const MODE: usize = 1;
@@ -38,9 +40,25 @@ pub const RECEIVE_STOPPED: usize = RECEIVE_ENABLED + 1;
 /// 0, or 1 and the time.
 pub const EIGHTH_FALL: usize = RECEIVE_STOPPED + 1;
 pub const STALE_RELEASE: usize = EIGHTH_FALL + 3;
-pub const STATE: usize = STALE_RELEASE + 1;
+/// The words of the Rust's fields.
+pub const FIELDS: usize = STALE_RELEASE + 1;
+/// The rate set, which the Rust doesn't have.
+pub const RATES: usize = FIELDS;
+pub const STATE: usize = RATES + rates::RATES;
 
 pub type State = [u64; STATE];
+
+/// A state of zeros with that rate set.
+pub fn blank(rates: &Rates) -> State {
+    let mut state = [0; STATE];
+    state[RATES..].copy_from_slice(&rates.words());
+    state
+}
+
+/// The rate set of a state.
+pub fn rates(state: &State) -> Rates {
+    Rates::of(&state[RATES..])
+}
 
 /// Flags of the status; AAS and ADZ are below them.
 pub const TDRE: u64 = 0x80;
@@ -101,8 +119,8 @@ impl Call {
 /// The peripheral of one build of the Rust.
 pub trait Peripheral: Reference {
     type State;
-    /// The state before the first call.
-    fn fresh() -> Self::State;
+    /// The state before the first call, with that rate set.
+    fn fresh(rates: &Rates) -> Self::State;
     fn state(words: &State) -> Self::State;
     fn words(state: &Self::State, out: &mut Vec<u64>);
     fn call(call: Call, state: &mut Self::State, set: &Self::Set, args: &Args, out: &mut Answer);

@@ -2,6 +2,7 @@
 pub mod calls;
 pub mod iic;
 pub mod layout;
+pub mod rates;
 pub mod sensor;
 
 /// A value that can be written as words.

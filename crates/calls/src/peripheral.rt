@@ -10,6 +10,7 @@ use super::sets::clocks_of;
 use super::states::byte_of;
 use super::states::iic_of;
 use super::states::put_iic;
+use super::states::rates_of;
 use super::time_at;
 use iic::Byte;
 use iic::Ended;
@@ -20,16 +21,25 @@ use iic::ReadOut;
 use iic::Stepped;
 
 // The state before the first call.
-pub fn fresh(state: &mut [u64; 61])
+pub fn fresh(state: &mut [u64; 75])
     ensures { λ _. ⌜ Begins (registerWords (defaultIic .registers)) (now (state .exit)) ⌝ }
 {
     put_iic(Iic::new(), state)
 }
 
+// The state before the first call with the rate set that the words hold, and whether the set is refused.
+pub fn with_rates(state: &mut [u64; 75]) -> u64
+    ensures { λ r. ⌜ Begins (registerWords (defaultIic .registers)) (now (state .exit)) ⌝ }
+{
+    let given = Iic::with_rates(rates_of(state));
+    put_iic(given.state, state);
+    given.refusal as u64
+}
+
 // A call that can change the state. What it leaves of it is written back.
 pub fn act(
     number: u64,
-    state: &mut [u64; 61],
+    state: &mut [u64; 75],
     set: &[u64; 69],
     args: &[u64; 24],
     out: &mut [u64; 70],
@@ -45,7 +55,7 @@ pub fn act(
     }
 }
 
-fn read(state: &mut [u64; 61], set: &[u64; 69], args: &[u64; 24], out: &mut [u64; 70]) -> u64
+fn read(state: &mut [u64; 75], set: &[u64; 69], args: &[u64; 24], out: &mut [u64; 70]) -> u64
     ensures { λ r. ⌜ Told 8 r (now (out .entry)) (now (out .exit)) ⌝ }
 {
     put_read(
@@ -55,7 +65,7 @@ fn read(state: &mut [u64; 61], set: &[u64; 69], args: &[u64; 24], out: &mut [u64
     )
 }
 
-fn write(state: &mut [u64; 61], set: &[u64; 69], args: &[u64; 24], out: &mut [u64; 70]) -> u64
+fn write(state: &mut [u64; 75], set: &[u64; 69], args: &[u64; 24], out: &mut [u64; 70]) -> u64
     ensures { λ r. ⌜ Told 8 r (now (out .entry)) (now (out .exit)) ⌝ }
 {
     put_stepped(
@@ -70,7 +80,7 @@ fn write(state: &mut [u64; 61], set: &[u64; 69], args: &[u64; 24], out: &mut [u6
     )
 }
 
-fn input_pins(state: &mut [u64; 61], set: &[u64; 69], args: &[u64; 24], out: &mut [u64; 70]) -> u64
+fn input_pins(state: &mut [u64; 75], set: &[u64; 69], args: &[u64; 24], out: &mut [u64; 70]) -> u64
     ensures { λ r. ⌜ Told 8 r (now (out .entry)) (now (out .exit)) ⌝ }
 {
     put_noticed(
@@ -80,7 +90,7 @@ fn input_pins(state: &mut [u64; 61], set: &[u64; 69], args: &[u64; 24], out: &mu
     )
 }
 
-fn set_gate(state: &mut [u64; 61], set: &[u64; 69], args: &[u64; 24], out: &mut [u64; 70]) -> u64
+fn set_gate(state: &mut [u64; 75], set: &[u64; 69], args: &[u64; 24], out: &mut [u64; 70]) -> u64
     ensures { λ r. ⌜ Told 8 r (now (out .entry)) (now (out .exit)) ⌝ }
 {
     put_stepped(
@@ -90,7 +100,7 @@ fn set_gate(state: &mut [u64; 61], set: &[u64; 69], args: &[u64; 24], out: &mut 
     )
 }
 
-fn advance(state: &mut [u64; 61], set: &[u64; 69], args: &[u64; 24], out: &mut [u64; 70]) -> u64
+fn advance(state: &mut [u64; 75], set: &[u64; 69], args: &[u64; 24], out: &mut [u64; 70]) -> u64
     ensures { λ r. ⌜ Told 8 r (now (out .entry)) (now (out .exit)) ⌝ }
 {
     put_stepped(
@@ -100,20 +110,20 @@ fn advance(state: &mut [u64; 61], set: &[u64; 69], args: &[u64; 24], out: &mut [
     )
 }
 
-pub fn deadline(state: &[u64; 61], set: &[u64; 69], out: &mut [u64; 70]) -> u64
+pub fn deadline(state: &[u64; 75], set: &[u64; 69], out: &mut [u64; 70]) -> u64
     ensures { λ r. ⌜ Told 8 r (now (out .entry)) (now (out .exit)) ⌝ }
 {
     put_deadline(iic_of(state).deadline(clocks_of(set)), out)
 }
 
-pub fn validate(state: &[u64; 61], args: &[u64; 24], out: &mut [u64; 70]) -> u64
+pub fn validate(state: &[u64; 75], args: &[u64; 24], out: &mut [u64; 70]) -> u64
     ensures { λ r. ⌜ Told 8 r (now (out .entry)) (now (out .exit)) ⌝ }
 {
     put_refusal(iic_of(state).validate(time_at(args, 0)), out)
 }
 
 // What else can be asked without a clock: the eight registers, the lines, both interrupts.
-pub fn observe(state: &[u64; 61], args: &[u64; 24], out: &mut [u64; 70]) -> u64
+pub fn observe(state: &[u64; 75], args: &[u64; 24], out: &mut [u64; 70]) -> u64
     ensures { λ r. ⌜ (r ≡ 0) × Told 14 r (now (out .entry)) (now (out .exit)) ⌝ }
 {
     let iic = iic_of(state);
@@ -147,7 +157,7 @@ fn put_ended(ended: Ended, out: &mut [u64; 70]) -> u64
     }
 }
 
-fn put_stepped(stepped: Stepped, state: &mut [u64; 61], out: &mut [u64; 70]) -> u64
+fn put_stepped(stepped: Stepped, state: &mut [u64; 75], out: &mut [u64; 70]) -> u64
     ensures { λ r. ⌜ (r ≡ endedNumber (stepped .ended)) × Told 8 r (now (out .entry)) (now (out .exit)) ⌝ }
 {
     let ended = stepped.ended;
@@ -160,7 +170,7 @@ fn shown(iic: Iic, address: u64, on: u64) -> u64 {
     iic.peek(address_of(std::num::wrapping_add_u64(address, on))) as u64
 }
 
-fn put_read(done: ReadOut, state: &mut [u64; 61], out: &mut [u64; 70]) -> u64
+fn put_read(done: ReadOut, state: &mut [u64; 75], out: &mut [u64; 70]) -> u64
     ensures { λ r. ⌜ (r ≡ byteNumber (done .answer)) × Told 8 r (now (out .entry)) (now (out .exit)) ⌝ }
 {
     let answer = done.answer;
@@ -168,7 +178,7 @@ fn put_read(done: ReadOut, state: &mut [u64; 61], out: &mut [u64; 70]) -> u64
     put_byte(answer, out)
 }
 
-fn put_noticed(done: Noticed, state: &mut [u64; 61], out: &mut [u64; 70]) -> u64
+fn put_noticed(done: Noticed, state: &mut [u64; 75], out: &mut [u64; 70]) -> u64
     ensures { λ r. ⌜ (r ≡ truthNumber (done .answer)) × Told 8 r (now (out .entry)) (now (out .exit)) ⌝ }
 {
     let answer = done.answer;

@@ -25,12 +25,13 @@ use time::Time;
 use waits::HalfWait;
 use waits::MaybeHalf;
 use waits::MaybeWait;
+use waits::rates::Rates;
 
 pub(crate) fn byte_of(n: u64) -> u8 {
     (n % 256) as u8
 }
 
-fn registers_of(w: &[u64; 61]) -> Registers {
+fn registers_of(w: &[u64; 75]) -> Registers {
     Registers {
         control: byte_of(w[0]),
         mode: byte_of(w[1]),
@@ -51,7 +52,7 @@ fn levels_of(scl: u64, sda: u64) -> Levels {
     }
 }
 
-fn lines_of(w: &[u64; 61]) -> Lines {
+fn lines_of(w: &[u64; 75]) -> Lines {
     Lines {
         drive: levels_of(w[12], w[13]),
         raw: levels_of(w[14], w[15]),
@@ -60,7 +61,7 @@ fn lines_of(w: &[u64; 61]) -> Lines {
     }
 }
 
-fn flags_of(w: &[u64; 61]) -> Flags {
+fn flags_of(w: &[u64; 75]) -> Flags {
     Flags {
         busy: w[9] != 0,
         reset: w[10] != 0,
@@ -74,7 +75,7 @@ fn flags_of(w: &[u64; 61]) -> Flags {
     }
 }
 
-fn wait_of(w: &[u64; 61], at: usize) -> MaybeWait
+fn wait_of(w: &[u64; 75], at: usize) -> MaybeWait
     requires { ⌜ at ≤ 32 ⌝ }
 {
     if w[at] == 0 {
@@ -137,7 +138,7 @@ fn phase_of(number: u64) -> Phase {
     }
 }
 
-fn frame_of(w: &[u64; 61]) -> Framing {
+fn frame_of(w: &[u64; 75]) -> Framing {
     if w[43] == 0 {
         return Framing::NoFrame;
     }
@@ -159,7 +160,33 @@ fn fall_of(present: u64, seconds: u64, fraction: u64) -> EighthFall {
     EighthFall::FellAt(Time { seconds, fraction })
 }
 
-pub(crate) fn iic_of(w: &[u64; 61]) -> Iic {
+fn length_of(n: u64) -> u16 {
+    (n % 0x1_0000) as u16
+}
+
+pub(crate) fn rates_of(w: &[u64; 75]) -> Rates {
+    Rates {
+        half_clocks: [
+            length_of(w[61]),
+            length_of(w[62]),
+            length_of(w[63]),
+            length_of(w[64]),
+            length_of(w[65]),
+            length_of(w[66]),
+            length_of(w[67]),
+            length_of(w[68]),
+        ],
+        monitors: [
+            length_of(w[69]),
+            length_of(w[70]),
+            length_of(w[71]),
+            length_of(w[72]),
+        ],
+        setups: [length_of(w[73]), length_of(w[74])],
+    }
+}
+
+pub(crate) fn iic_of(w: &[u64; 75]) -> Iic {
     Iic {
         registers: registers_of(w),
         lines: lines_of(w),
@@ -173,10 +200,11 @@ pub(crate) fn iic_of(w: &[u64; 61]) -> Iic {
         monitor_wait: half_of(w[29], w[30], w[31]),
         filter_wait: wait_of(w, 20),
         setup_wait: wait_of(w, 32),
+        rates: rates_of(w),
     }
 }
 
-fn put_registers(r: Registers, w: &mut [u64; 61])
+fn put_registers(r: Registers, w: &mut [u64; 75])
     ensures { λ _. ⌜ now (w .exit) ≡ sets (now (w .entry)) 0 (registerWords r) ⌝ }
 {
     w[0] = r.control as u64;
@@ -190,21 +218,21 @@ fn put_registers(r: Registers, w: &mut [u64; 61])
     w[8] = r.rdr as u64;
 }
 
-fn put_levels(l: Levels, w: &mut [u64; 61], at: usize)
+fn put_levels(l: Levels, w: &mut [u64; 75], at: usize)
     requires { ⌜ at ≤ 18 ⌝ }
 {
     w[at] = l.scl as u64;
     w[at + 1] = l.sda as u64;
 }
 
-fn put_lines(l: Lines, w: &mut [u64; 61]) {
+fn put_lines(l: Lines, w: &mut [u64; 75]) {
     put_levels(l.drive, w, 12);
     put_levels(l.raw, w, 14);
     put_levels(l.latch, w, 16);
     put_levels(l.filtered, w, 18);
 }
 
-fn put_flags(f: Flags, w: &mut [u64; 61]) {
+fn put_flags(f: Flags, w: &mut [u64; 75]) {
     w[9] = f.busy as u64;
     w[10] = f.reset as u64;
     w[11] = f.gate as u64;
@@ -216,28 +244,28 @@ fn put_flags(f: Flags, w: &mut [u64; 61]) {
     w[60] = f.stale_release as u64;
 }
 
-fn put_two(first: u64, second: u64, w: &mut [u64; 61], at: usize)
+fn put_two(first: u64, second: u64, w: &mut [u64; 75], at: usize)
     requires { ⌜ at ≤ 58 ⌝ }
 {
     w[at] = first;
     w[at + 1] = second;
 }
 
-fn put_three(first: u64, second: u64, third: u64, w: &mut [u64; 61], at: usize)
+fn put_three(first: u64, second: u64, third: u64, w: &mut [u64; 75], at: usize)
     requires { ⌜ at ≤ 57 ⌝ }
 {
     w[at] = first;
     put_two(second, third, w, at + 1);
 }
 
-fn put_tap(tap: Tap, w: &mut [u64; 61], at: usize)
+fn put_tap(tap: Tap, w: &mut [u64; 75], at: usize)
     requires { ⌜ at ≤ 57 ⌝ }
 {
     let source = tap.source;
     put_three(1, number_of(source), tap.divide as u64, w, at);
 }
 
-fn put_state(state: WaitState, w: &mut [u64; 61], at: usize)
+fn put_state(state: WaitState, w: &mut [u64; 75], at: usize)
     requires { ⌜ at ≤ 57 ⌝ }
 {
     match state {
@@ -247,7 +275,7 @@ fn put_state(state: WaitState, w: &mut [u64; 61], at: usize)
     }
 }
 
-fn put_clock_wait(wait: ClockWait, w: &mut [u64; 61], at: usize)
+fn put_clock_wait(wait: ClockWait, w: &mut [u64; 75], at: usize)
     requires { ⌜ at ≤ 32 ⌝ }
 {
     put_tap(wait.tap, w, at);
@@ -255,7 +283,7 @@ fn put_clock_wait(wait: ClockWait, w: &mut [u64; 61], at: usize)
     put_state(state, w, at + 3);
 }
 
-fn put_wait(wait: MaybeWait, w: &mut [u64; 61], at: usize)
+fn put_wait(wait: MaybeWait, w: &mut [u64; 75], at: usize)
     requires { ⌜ at ≤ 32 ⌝ }
 {
     match wait {
@@ -267,7 +295,7 @@ fn put_wait(wait: MaybeWait, w: &mut [u64; 61], at: usize)
     }
 }
 
-fn put_half(wait: MaybeHalf, w: &mut [u64; 61], at: usize)
+fn put_half(wait: MaybeHalf, w: &mut [u64; 75], at: usize)
     requires { ⌜ at ≤ 29 ⌝ }
 {
     match wait {
@@ -276,7 +304,7 @@ fn put_half(wait: MaybeHalf, w: &mut [u64; 61], at: usize)
     }
 }
 
-fn put_condition(condition: Condition, w: &mut [u64; 61]) {
+fn put_condition(condition: Condition, w: &mut [u64; 75]) {
     match condition {
         Condition::NoCondition => put_two(0, 0, w, 39),
         Condition::StartRelease => put_two(1, 0, w, 39),
@@ -289,14 +317,14 @@ fn put_condition(condition: Condition, w: &mut [u64; 61]) {
     }
 }
 
-fn put_command(command: Command, w: &mut [u64; 61]) {
+fn put_command(command: Command, w: &mut [u64; 75]) {
     match command {
         Command::NoCommand => put_two(0, 0, w, 41),
         Command::Commanded(start) => put_two(1, start as u64, w, 41),
     }
 }
 
-fn put_hold(hold: Hold, w: &mut [u64; 61]) {
+fn put_hold(hold: Hold, w: &mut [u64; 75]) {
     match hold {
         Hold::NoHold => put_two(0, 0, w, 53),
         Hold::Transmit => put_two(1, 0, w, 53),
@@ -312,7 +340,7 @@ fn phase_number(phase: Phase) -> u64 {
     }
 }
 
-fn put_present(f: Frame, w: &mut [u64; 61]) {
+fn put_present(f: Frame, w: &mut [u64; 75]) {
     let phase = f.phase;
     w[43] = 1;
     w[44] = f.shift as u64;
@@ -324,27 +352,51 @@ fn put_present(f: Frame, w: &mut [u64; 61]) {
     w[50] = f.last as u64;
 }
 
-fn put_absent(w: &mut [u64; 61]) {
+fn put_absent(w: &mut [u64; 75]) {
     put_three(0, 0, 0, w, 43);
     put_three(0, 0, 0, w, 46);
     put_two(0, 0, w, 49);
 }
 
-fn put_frame(frame: Framing, w: &mut [u64; 61]) {
+fn put_frame(frame: Framing, w: &mut [u64; 75]) {
     match frame {
         Framing::NoFrame => put_absent(w),
         Framing::InFrame(f) => put_present(f, w),
     }
 }
 
-fn put_fall(fall: EighthFall, w: &mut [u64; 61]) {
+fn put_fall(fall: EighthFall, w: &mut [u64; 75]) {
     match fall {
         EighthFall::NoFall => put_three(0, 0, 0, w, 57),
         EighthFall::FellAt(t) => put_three(1, t.seconds, t.fraction, w, 57),
     }
 }
 
-fn put_waits(iic: Iic, w: &mut [u64; 61]) {
+fn wide(length: u16) -> u64 {
+    length as u64
+}
+
+fn put_rates(rates: Rates, w: &mut [u64; 75]) {
+    let h = rates.half_clocks;
+    let m = rates.monitors;
+    let s = rates.setups;
+    w[61] = wide(h[0]);
+    w[62] = wide(h[1]);
+    w[63] = wide(h[2]);
+    w[64] = wide(h[3]);
+    w[65] = wide(h[4]);
+    w[66] = wide(h[5]);
+    w[67] = wide(h[6]);
+    w[68] = wide(h[7]);
+    w[69] = wide(m[0]);
+    w[70] = wide(m[1]);
+    w[71] = wide(m[2]);
+    w[72] = wide(m[3]);
+    w[73] = wide(s[0]);
+    w[74] = wide(s[1]);
+}
+
+fn put_waits(iic: Iic, w: &mut [u64; 75]) {
     let clock_wait = iic.clock_wait;
     let monitor_wait = iic.monitor_wait;
     let filter_wait = iic.filter_wait;
@@ -355,7 +407,7 @@ fn put_waits(iic: Iic, w: &mut [u64; 61]) {
     put_wait(setup_wait, w, 32);
 }
 
-pub(crate) fn put_iic(iic: Iic, w: &mut [u64; 61])
+pub(crate) fn put_iic(iic: Iic, w: &mut [u64; 75])
     ensures { λ _. ⌜ Begins (registerWords (iic .registers)) (now (w .exit)) ⌝ }
 {
     let frame = iic.frame;
@@ -371,5 +423,6 @@ pub(crate) fn put_iic(iic: Iic, w: &mut [u64; 61])
     put_hold(hold, w);
     put_fall(eighth_fall, w);
     put_waits(iic, w);
+    put_rates(iic.rates, w);
     put_registers(iic.registers, w);
 }

@@ -22,6 +22,7 @@ use Rattle.frames.specs.declared.Framing.the-variants.{InFrame}
 use Rattle.waits.specs.Half as Half
 use Rattle.waits.specs.Half.{halfAfter}
 use Rattle.waits.specs.Rates as Rates
+use Rattle.waits.specs.Rates.{defaultRates}
 use Rattle.waits.specs.declared.NewHalf.{NewHalf}
 use Rattle.waits.specs.declared.NewHalf.the-variants as half
 use Rattle.iic.specs.Calls as Iic
@@ -142,17 +143,17 @@ rows =
 
 abbrev worked : Row → Latest × ℕ × ℕ × Answer
 worked r = (
-  reached (r .clocks) (r .made-by) .latest,
-  before (r .clocks) (r .made-by),
-  written (r .clocks) (r .made-by) (r .address) (r .value) (at 0),
-  outcomeOf (r .clocks) (write (r .address) (r .value) (at 0)) (reached (r .clocks) (r .made-by) .state) .answer,
+  reached defaultRates (r .clocks) (r .made-by) .latest,
+  before defaultRates (r .clocks) (r .made-by),
+  written defaultRates (r .clocks) (r .made-by) (r .address) (r .value) (at 0),
+  outcomeOf (r .clocks) (write (r .address) (r .value) (at 0)) (reached defaultRates (r .clocks) (r .made-by) .state) .answer,
 )
 
 abbrev expected : Row → Latest × ℕ × ℕ × Answer
 expected r = (r .latest, r .was, r .is, r .says)
 
 rows-hold : map worked rows ≡ map expected rows
-unfolding Clock.zeroIn Clocks.hasZero Parts.redirectFrame Mirror.ordered Reading.peekAt Reading.readAt Reading.registerAt Writing.controlSet Writing.enterResetOf Writing.giveDataOf Writing.pullSdaOf Writing.redirected Writing.sendOnOf Writing.stopReceiveOf Writing.takeControlOf Writing.outOfResetOf Writing.writeAddressOf Writing.writeAt Writing.writeCommandOf Writing.writeControlOf Writing.writeDataOf Writing.writeEnableOf Writing.writeStatusOf Iic.keepStretchedOf Iic.peekOf Iic.readOf Iic.setGateOf Iic.turnGateOf Iic.turnWaitsOf Iic.writeOf Kick.clockFrameOf Kick.kickOf Kick.launchOf Ready.nextFrameOf Shift.beginFrameOf Shift.loadTransmitOf Shift.setHoldOf State.defaultIic State.stopShifterOf Waits.scheduleFilterOf Waits.turnClockOf Waits.turnFilterOf Waits.turnMonitorOf Waits.turnSetupOf Hosts.outcomeOf Flags.begin Flags.next Flags.past
+unfolding Clock.zeroIn Clocks.hasZero Parts.redirectFrame Mirror.ordered Reading.peekAt Reading.readAt Reading.registerAt Writing.controlSet Writing.enterResetOf Writing.giveDataOf Writing.pullSdaOf Writing.redirected Writing.sendOnOf Writing.stopReceiveOf Writing.takeControlOf Writing.outOfResetOf Writing.writeAddressOf Writing.writeAt Writing.writeCommandOf Writing.writeControlOf Writing.writeDataOf Writing.writeEnableOf Writing.writeStatusOf Iic.keepStretchedOf Iic.peekOf Iic.readOf Iic.setGateOf Iic.turnGateOf Iic.turnWaitsOf Iic.writeOf Kick.clockFrameOf Kick.kickOf Kick.launchOf Ready.nextFrameOf Shift.beginFrameOf Shift.loadTransmitOf Shift.setHoldOf State.initial State.stopShifterOf Waits.scheduleFilterOf Waits.turnClockOf Waits.turnFilterOf Waits.turnMonitorOf Waits.turnSetupOf Hosts.outcomeOf Flags.begin Flags.next Flags.past Rates.ratesHold Rates.lengthsHold Rates.monitorBelow Rates.monitorHalves Rates.periodOf Rates.rate
 rows-hold = refl
 
 -- ## A refused write clears too
@@ -183,10 +184,10 @@ bare = setControl 0xa0 (setAddress 0x01 (setReceiveEnabled true (gated true defa
 abbrev clearedState : Iic
 clearedState = setFrame (InFrame (begun false)) (setDrive (levels false true) bare)
 
-shown-before : reached long (made receiving) ≡ record { state = setStatus 0x80 (setSeen 0x80 bare); latest = showed 0x80 }
-unfolding Clock.zeroIn Clocks.hasZero Parts.redirectFrame Reading.peekAt Reading.readAt Reading.registerAt Writing.controlSet Writing.enterResetOf Writing.stopReceiveOf Writing.takeControlOf Writing.redirected Writing.writeAddressOf Writing.writeAt Writing.writeCommandOf Writing.writeControlOf Iic.keepStretchedOf Iic.peekOf Iic.readOf Iic.setGateOf Iic.turnGateOf Iic.turnWaitsOf Iic.writeOf Kick.clockFrameOf Kick.kickOf Ready.nextFrameOf Shift.loadTransmitOf State.defaultIic State.stopShifterOf Waits.scheduleFilterOf Waits.turnClockOf Waits.turnFilterOf Waits.turnMonitorOf Waits.turnSetupOf Hosts.outcomeOf Flags.begin Flags.next Flags.past
+shown-before : reached defaultRates long (made receiving) ≡ record { state = setStatus 0x80 (setSeen 0x80 bare); latest = showed 0x80 }
+unfolding Clock.zeroIn Clocks.hasZero Parts.redirectFrame Reading.peekAt Reading.readAt Reading.registerAt Writing.controlSet Writing.enterResetOf Writing.stopReceiveOf Writing.takeControlOf Writing.redirected Writing.writeAddressOf Writing.writeAt Writing.writeCommandOf Writing.writeControlOf Iic.keepStretchedOf Iic.peekOf Iic.readOf Iic.setGateOf Iic.turnGateOf Iic.turnWaitsOf Iic.writeOf Kick.clockFrameOf Kick.kickOf Ready.nextFrameOf Shift.loadTransmitOf State.initial State.stopShifterOf Waits.scheduleFilterOf Waits.turnClockOf Waits.turnFilterOf Waits.turnMonitorOf Waits.turnSetupOf Hosts.outcomeOf Flags.begin Flags.next Flags.past Rates.ratesHold Rates.lengthsHold Rates.monitorBelow Rates.monitorHalves Rates.periodOf Rates.rate
 shown-before = refl
 
 refused-and-cleared : outcomeOf long (write 4 0x00 end) (setStatus 0x80 (setSeen 0x80 bare)) ≡ outcome (refusal 7) clearedState
-unfolding Clock.zeroIn Clocks.hasZero Reading.registerAt Writing.writeAt Writing.writeStatusOf Iic.writeOf Kick.clockFrameOf Kick.kickOf Kick.launchOf Ready.lowHalfOf Ready.nextFrameOf Rates.periodOf Rates.rate Shift.beginFrameOf Shift.loadTransmitOf State.defaultIic Waits.startClockOf Hosts.outcomeOf
+unfolding Clock.zeroIn Clocks.hasZero Reading.registerAt Writing.writeAt Writing.writeStatusOf Iic.writeOf Kick.clockFrameOf Kick.kickOf Kick.launchOf Ready.lowHalfOf Ready.nextFrameOf Rates.periodOf Rates.rate Shift.beginFrameOf Shift.loadTransmitOf State.initial Waits.startClockOf Hosts.outcomeOf Rates.ratesHold Rates.lengthsHold Rates.monitorBelow Rates.monitorHalves
 refused-and-cleared = ap (λ (w : NewHalf). ofStep (clockFrom w clearedState)) too-many

@@ -27,7 +27,9 @@ use Rattle.iic.specs.Calls.{advanceOf, guardBy, inputPinsOf, keepStretchedOf, p
 use Rattle.iic.specs.Checks.{fellBy, progressHolds, rangesHold}
 use Rattle.iic.specs.Reading.{peekAt, readAt, registerAt}
 use Rattle.iic.specs.Setters.{setGate as gated, setRaw}
-use Rattle.iic.specs.State.{awake, defaultIic}
+use Rattle.iic.specs.State.{awake, initial}
+use Rattle.waits.specs.Rates.{ratesHold}
+use Rattle.waits.specs.declared.rates.Rates.{Rates}
 use Rattle.iic.specs.Writing.{statusLeft, writeAt, writeStatusOf}
 use Rattle.iic.specs.declared.Ended.{Ended}
 use Rattle.iic.specs.declared.Iic.{Iic}
@@ -36,14 +38,14 @@ use Rattle.iic.specs.declared.Register.the-variants.{ICCR1, ICCR2, ICDRR, ICDRT
 use Rattle.iic.specs.declared.Stepped.{Stepped}
 use Rattle.hosts.specs.Calls.{Call, peek, read, write, inputPins, setGate, deadline, advance, pins, interrupt, interruptWithEnable, validate, Made, callOf, outcomeOf}
 use Rattle.iic.specs.Told.{Answer, refusal, ofByte}
-use Rattle.flags.specs.Invariant.{Ends, Holds, Keeps, Kept, UpToTdre, Within}
+use Rattle.flags.specs.Invariant.{Bound, Ends, Holds, Keeps, Kept, UpToTdre, Within, bound}
 use Rattle.flags.specs.Masks.{decide, masked-missing, no-other-bits, set-or, taken-out}
-use Rattle.flags.specs.StatusWrites.{BeforeAnyRead, ClearsOnlyShown, Flag, FrameToGo, Latest, Past, RaisesOnlyTdre, Ranges, ReachedStates, StatusWrites, ToGo, aas, adz, al, begin, isSet, isStatus, latestAfter, maskOf, nackf, next, past, rdrf, reached, showing, shown, statusOf, stop, tdre, tend, written}
+use Rattle.flags.specs.StatusWrites.{BeforeAnyRead, ClearsOnlyShown, Flag, FrameToGo, Latest, Past, RaisesOnlyTdre, Ranges, ReachedStates, StatusWrites, ToGo, aas, adz, al, begin, isSet, isStatus, latestAfter, maskOf, nackf, next, past, rdrf, reached, showed, showing, shown, statusOf, stop, tdre, tend, written}
 use Rattle.flags.specs.Timed.{fire-clock, fire-filter, fire-monitor, fire-setup, if-ends, kick, kick-on, left, read-data, schedule-filter, then-ends, turn-clock, turn-filter, turn-monitor, turn-setup, write-at}
 
 -- ## `input_pins`, `set_gate`, `advance`
 
-module _ (b : ℕ) (now : Time) (k : Clocks) where
+module _ (b : Bound) (now : Time) (k : Clocks) where
   take-pins : (given : Levels) → Keeps (Within b) (takePinsOf given now (k .system))
   unfolding takePinsOf
   take-pins given u h =
@@ -132,59 +134,60 @@ guard-cases P g s x r h = go (eqb g 0)
 abbrev shownBy : Bool → Ended → ℕ → Latest → ℕ
 shownBy t e v was = shown (cond t (showing (ofByte (byteOf e v)) was) was)
 
-abbrev ReadSo : Bool → ℕ → Latest → Stepped → Type 0
-ReadSo t v was x = Kept (Within (shownBy t (x .ended) v was)) (x .state)
+abbrev ReadSo : Rates → Bool → ℕ → Latest → Stepped → Type 0
+ReadSo r t v was x = Kept (Within (bound r (shownBy t (x .ended) v was))) (x .state)
 
 -- an answered read of ICSR shows the byte that `seen` now is
-read-at : (r : Register) (was : Latest) (now : Time) (system : Domain) (s : Iic) → Kept (Within (shown was)) s
-    → ReadSo (isICSR r) (peekAt r s) was (readAt r now system s)
+read-at : (given : Rates) (r : Register) (was : Latest) (now : Time) (system : Domain) (s : Iic) → Kept (Within (bound given (shown was))) s
+    → ReadSo given (isICSR r) (peekAt r s) was (readAt r now system s)
 unfolding readAt peekAt
-read-at ICCR1 was now system s h = h
-read-at ICCR2 was now system s h = h
-read-at ICMR was now system s h = h
-read-at ICIER was now system s h = h
-read-at ICSR was now system s h = (λ f e. e, h .1, h .2)
-read-at SAR was now system s h = h
-read-at ICDRT was now system s h = h
-read-at ICDRR was now system s h = read-data (shown was) now system s h .kept
+read-at given ICCR1 was now system s h = h
+read-at given ICCR2 was now system s h = h
+read-at given ICMR was now system s h = h
+read-at given ICIER was now system s h = h
+read-at given ICSR was now system s h = ((λ f e. e, h .0 .1), h .1, h .2)
+read-at given SAR was now system s h = h
+read-at given ICDRT was now system s h = h
+read-at given ICDRR was now system s h = read-data (bound given (shown was)) now system s h .kept
 
 -- a refused one shows nothing
-unread : (t : Bool) (v n : ℕ) (was : Latest) (s : Iic) → Kept (Within (shown was)) s → ReadSo t v was (refused n s)
-unread true v n was s h = h
-unread false v n was s h = h
+unread : (given : Rates) (t : Bool) (v n : ℕ) (was : Latest) (s : Iic) → Kept (Within (bound given (shown was))) s
+    → ReadSo given t v was (refused n s)
+unread given true v n was s h = h
+unread given false v n was s h = h
 
-read-holds : (a g : ℕ) (was : Latest) (now : Time) (system : Domain) (s : Iic) → Kept (Within (shown was)) s
-    → ReadSo (isStatus a) (peekOf s a) was (guarded g s (readAt (registerAt a) now system s))
+read-holds : (given : Rates) (a g : ℕ) (was : Latest) (now : Time) (system : Domain) (s : Iic) → Kept (Within (bound given (shown was))) s
+    → ReadSo given (isStatus a) (peekOf s a) was (guarded g s (readAt (registerAt a) now system s))
 unfolding peekOf
-read-holds a g was now system s h =
+read-holds given a g was now system s h =
     let v : ℕ = peekAt (registerAt a) s in
-    guard-cases (ReadSo (isStatus a) v was) g s (readAt (registerAt a) now system s) (unread (isStatus a) v g was s h)
-    (subst (λ (t : Bool). ReadSo t v was (readAt (registerAt a) now system s)) (which a) (read-at (registerAt a) was now system s h))
+    guard-cases (ReadSo given (isStatus a) v was) g s (readAt (registerAt a) now system s) (unread given (isStatus a) v g was s h)
+    (subst (λ (t : Bool). ReadSo given t v was (readAt (registerAt a) now system s)) (which a) (read-at given (registerAt a) was now system s h))
 
-guard-ends : (b g : ℕ) (s : Iic) (x : Stepped) → Kept (Within b) s → Ends (Within b) x → Kept (Within b) (guarded g s x .state)
+guard-ends : (b : Bound) (g : ℕ) (s : Iic) (x : Stepped) → Kept (Within b) s → Ends (Within b) x → Kept (Within b) (guarded g s x .state)
 guard-ends b g s x h e = guard-cases (λ (o : Stepped). Kept (Within b) (o .state)) g s x h (e .kept)
 
-holds-next : (k : Clocks) (x : Call) (p : Past) → Holds p → Holds (next k x p)
+holds-next : (r : Rates) (k : Clocks) (x : Call) (p : Past) → Holds r p → Holds r (next k x p)
 unfolding next outcomeOf readOf writeOf inputPinsOf setGateOf advanceOf
-holds-next k (peek a) p h = h
-holds-next k (read a now) p h = read-holds a (guardBy (hasZero k) (p .state)) (p .latest) now (k .system) (p .state) h
-holds-next k (write a value now) p h =
-    guard-ends (shown (p .latest)) (guardBy (hasZero k) (p .state)) (p .state) (writeAt (registerAt a) value now (k .system) (p .state)) h
-    (write-at (shown (p .latest)) now (k .system) (registerAt a) value (p .state) h)
-holds-next k (inputPins scl sda now) p h =
-    guard-ends (shown (p .latest)) (guardBy (hasZero k) (p .state)) (p .state) (takePinsOf (levels scl sda) now (k .system) (p .state)) h
-    (take-pins (shown (p .latest)) now k (levels scl sda) (p .state) h)
-holds-next k (setGate gate now) p h =
-    guard-ends (shown (p .latest)) (guardBy (hasZero k) (p .state)) (p .state) (turnGateOf gate now k (p .state)) h
-    (turn-gate (shown (p .latest)) now k gate (p .state) h)
-holds-next k deadline p h = h
-holds-next k (advance now) p h =
-    guard-ends (shown (p .latest)) (guardBy (hasZero k) (p .state)) (p .state) (visitOf now k (p .state)) h
-    (visit (shown (p .latest)) now k (p .state) h)
-holds-next k pins p h = h
-holds-next k interrupt p h = h
-holds-next k (interruptWithEnable retained) p h = h
-holds-next k (validate now) p h = h
+holds-next r k (peek a) p h = h
+holds-next r k (read a now) p h = read-holds r a (guardBy (hasZero k) (p .state)) (p .latest) now (k .system) (p .state) h
+holds-next r k (write a value now) p h =
+    guard-ends (bound r (shown (p .latest))) (guardBy (hasZero k) (p .state)) (p .state) (writeAt (registerAt a) value now (k .system) (p .state)) h
+    (write-at (bound r (shown (p .latest))) now (k .system) (registerAt a) value (p .state) h)
+holds-next r k (inputPins scl sda now) p h =
+    guard-ends (bound r (shown (p .latest))) (guardBy (hasZero k) (p .state)) (p .state) (takePinsOf (levels scl sda) now (k .system) (p .state)) h
+    (take-pins (bound r (shown (p .latest))) now k (levels scl sda) (p .state) h)
+holds-next r k (setGate gate now) p h =
+    guard-ends (bound r (shown (p .latest))) (guardBy (hasZero k) (p .state)) (p .state) (turnGateOf gate now k (p .state)) h
+    (turn-gate (bound r (shown (p .latest))) now k gate (p .state) h)
+holds-next r k deadline p h = h
+holds-next r k (advance now) p h =
+    guard-ends (bound r (shown (p .latest))) (guardBy (hasZero k) (p .state)) (p .state) (visitOf now k (p .state)) h
+    (visit (bound r (shown (p .latest))) now k (p .state) h)
+holds-next r k pins p h = h
+holds-next r k interrupt p h = h
+holds-next r k (interruptWithEnable retained) p h = h
+holds-next r k (validate now) p h = h
 
 -- ## What counts as a read
 
@@ -205,14 +208,14 @@ refused-is-no-read k a n now p e = ap (λ (v : Answer). latestAfter (read a now)
 
 -- ## Any list
 
-holds-past : (k : Clocks) (p : Past) (l : List Made) → Holds p → Holds (past k p l)
+holds-past : (r : Rates) (k : Clocks) (p : Past) (l : List Made) → Holds r p → Holds r (past k p l)
 unfolding past
-holds-past k p [] h = h
-holds-past k p (m ∷ l) h = holds-past k (next k (callOf m) p) l (holds-next k (callOf m) p h)
+holds-past r k p [] h = h
+holds-past r k p (m ∷ l) h = holds-past r k (next k (callOf m) p) l (holds-next r k (callOf m) p h)
 
-holds-reached : (k : Clocks) (l : List Made) → Holds (reached k l)
-unfolding begin defaultIic
-holds-reached k l = holds-past k begin l (λ f e. e, (omega arith, refl), tt)
+holds-reached : (r : Rates) (k : Clocks) (l : List Made) → Holds r (reached r k l)
+unfolding begin initial
+holds-reached r k l = holds-past r k (begin r) l ((λ f e. e, refl), (omega arith, refl), tt)
 
 -- ## A status write
 
@@ -226,8 +229,8 @@ only-tdre al h = absurd (false≢true h)
 only-tdre aas h = absurd (false≢true h)
 only-tdre adz h = absurd (false≢true h)
 
-raised-tdre : (b status seen : ℕ) → UpToTdre b status seen → UpToTdre b (bitOr status TDRE) seen
-raised-tdre b status seen h f = (
+raised-tdre : (b status seen : ℕ) (r : Rates) → UpToTdre b status seen r → UpToTdre b (bitOr status TDRE) seen r
+raised-tdre b status seen r h f = (
   λ e. set-or f status TDRE ∙ ap (λ (t : Bool). t || isSet f TDRE) (h f .0 e),
   λ e g. decide (isSet f status) (λ t. h f .1 t g)
       (λ t. only-tdre f (sym (ap (λ (z : Bool). z || isSet f TDRE) t) ∙ sym (set-or f status TDRE) ∙ e)),
@@ -240,17 +243,18 @@ Does b value s x = ClearsOnlyShown b value (statusOf s) (statusOf (x .state)) ×
 unwritten : (b value n : ℕ) (s : Iic) → Does b value s (refused n s)
 unwritten b value n s = (λ f e g. absurd (true≢false (sym e ∙ g)), λ f e g. absurd (false≢true (sym e ∙ g)))
 
-status-written : (b value : ℕ) (now : Time) (system : Domain) (s : Iic) → Kept (Within b) s → Does b value s (writeAt ICSR value now system s)
+status-written : (b : Bound) (value : ℕ) (now : Time) (system : Domain) (s : Iic) → Kept (Within b) s
+    → Does (b .byte) value s (writeAt ICSR value now system s)
 unfolding writeAt writeStatusOf
 status-written b value now system s h = (
-  λ f e g. let out = taken-out f (statusOf s) (s .registers .seen) value e (missing f g) in (h .0 f (out .0), out .1),
+  λ f e g. let out = taken-out f (statusOf s) (s .registers .seen) value e (missing f g) in (h .0 .0 f (out .0), out .1),
   λ f e g. after f .1 g (masked-missing f (statusOf s) _ e),
 )
   where
     remaining : ℕ
     remaining = statusLeft value s
 
-    after : UpToTdre remaining (statusOf (writeAt ICSR value now system s .state)) 0
+    after : UpToTdre remaining (statusOf (writeAt ICSR value now system s .state)) 0 (s .rates)
     after =
         kick (UpToTdre remaining) now system (raised-tdre remaining) (writeStatusOf value s)
         (λ f. (λ e. e, λ e g. absurd (true≢false (sym e ∙ g))), h .1, h .2) .kept .0
@@ -260,18 +264,18 @@ status-written b value now system s h = (
 
 pub status-writes : StatusWrites
 unfolding outcomeOf writeOf
-status-writes k l a value now e =
-    let p = reached k l in
+status-writes r k l a value now e =
+    let p = reached r k l in
     let b : ℕ = shown (p .latest) in
     let g : ℕ = guardBy (hasZero k) (p .state) in
     guard-cases (Does b value (p .state)) g (p .state) (writeAt (registerAt a) value now (k .system) (p .state)) (unwritten b value g (p .state))
-    (subst (λ (r : Register). Does b value (p .state) (writeAt r value now (k .system) (p .state))) (sym (chosen a e))
-    (status-written b value now (k .system) (p .state) (holds-reached k l)))
+    (subst (λ (at : Register). Does b value (p .state) (writeAt at value now (k .system) (p .state))) (sym (chosen a e))
+    (status-written (bound r b) value now (k .system) (p .state) (holds-reached r k l)))
 
 pub before-any-read : BeforeAnyRead
-before-any-read k l a value now e n f s =
-    decide (isSet f (written k l a value now)) (λ t. t)
-    (λ t. absurd (false≢true (sym (ap (λ (x : Latest). isSet f (shown x)) n) ∙ status-writes k l a value now e .0 f s t .0)))
+before-any-read r k l a value now e n f s =
+    decide (isSet f (written r k l a value now)) (λ t. t)
+    (λ t. absurd (false≢true (sym (ap (λ (x : Latest). isSet f (shown x)) n) ∙ status-writes r k l a value now e .0 f s t .0)))
 
 -- ## What every reached state meets
 
@@ -289,24 +293,48 @@ progress-in : (fr : Framing) → FrameToGo fr → progressIn fr ≡ true
 progress-in NoFrame g = refl
 progress-in (InFrame f) g = progress-at (f .phase) (f .remaining) g
 
-guard-met : (zero : Bool) (s : Iic) → rangesHold s ≡ true → progressHolds s ≡ true → guardBy zero s ≡ cond zero 1 0
-guard-met zero s x y = ap₂ (λ (t u : Bool). cond zero 1 (cond (not t) 9 (cond (not u) 10 0))) x y
+guard-met : (zero : Bool) (s : Iic) → rangesHold s ≡ true → progressHolds s ≡ true
+    → guardBy zero s ≡ cond zero 1 (cond (not (ratesHold (s .rates))) 14 0)
+guard-met zero s x y =
+    ap₂ (λ (t u : Bool). cond zero 1 (cond (not (ratesHold (s .rates))) 14 (cond (not t) 9 (cond (not u) 10 0)))) x y
 
 valid-met : (now : Time) (s : Iic) → rangesHold s ≡ true → progressHolds s ≡ true
-    → validateOf s now ≡ cond (not (fellBy (s .«eighth_fall») now)) 9 (waitsRefusal s)
+    → validateOf s now ≡ cond (not (ratesHold (s .rates))) 14 (cond (not (fellBy (s .«eighth_fall») now)) 9 (waitsRefusal s))
 unfolding validateOf
 valid-met now s x y =
-    ap₂ (λ (t u : Bool). cond (not (t && fellBy (s .«eighth_fall») now)) 9 (cond (not u) 10 (waitsRefusal s))) x y
+    ap₂ (λ (t u : Bool). cond (not (ratesHold (s .rates))) 14
+    (cond (not (t && fellBy (s .«eighth_fall») now)) 9 (cond (not u) 10 (waitsRefusal s)))) x y
 
 pub reached-states : ReachedStates
-reached-states k l =
-    let s = reached k l .state in
-    let h = holds-reached k l in
+reached-states r k l =
+    let s = reached r k l .state in
+    let h = holds-reached r k l in
+    let given : s .rates ≡ r = h .0 .1 in
     let ranges = ranges-hold s (h .1) in
     let progress = progress-in (s .frame) (h .2) in
     record {
       ranges = h .1;
       frame = h .2;
-      guard = guard-met (hasZero k) s ranges progress;
-      valid = λ now. valid-met now s ranges progress;
+      given = given;
+      guard = guard-met (hasZero k) s ranges progress ∙ ap (λ (x : Rates). cond (hasZero k) 1 (cond (not (ratesHold x)) 14 0)) given;
+      valid = λ now. valid-met now s ranges progress
+          ∙ ap (λ (x : Rates). cond (not (ratesHold x)) 14 (cond (not (fellBy (s .«eighth_fall») now)) 9 (waitsRefusal s))) given;
     }
+
+-- ## The rate set
+
+every : (f : Flag) → isSet f 0xff ≡ true
+every tdre = refl
+every tend = refl
+every rdrf = refl
+every nackf = refl
+every stop = refl
+every al = refl
+every aas = refl
+every adz = refl
+
+-- document 02 (f): every call, answered or refused, hands the rate set on untouched, from any state that 9 and 10 aren't for
+pub handed-on : (k : Clocks) (x : Call) (s : Iic) → Ranges s → FrameToGo (s .frame) → outcomeOf k x s .state .rates ≡ s .rates
+unfolding next
+handed-on k x s ranges frame =
+    holds-next (s .rates) k x (record { state = s; latest = showed 0xff }) ((λ f e. every f, refl), ranges, frame) .0 .1

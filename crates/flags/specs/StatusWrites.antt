@@ -17,7 +17,9 @@ use Rattle.frames.specs.declared.Phase.the-variants.{Ack, Data, Done}
 use Rattle.iic.specs.Bits.{AAS, ADZ, AL, NACKF, RDRF, STOP, TDRE, TEND}
 use Rattle.iic.specs.Calls.{guardBy, validateOf, waitsRefusal}
 use Rattle.iic.specs.Checks.{fellBy}
-use Rattle.iic.specs.State.{defaultIic}
+use Rattle.iic.specs.State.{initial}
+use Rattle.waits.specs.Rates.{ratesHold}
+use Rattle.waits.specs.declared.rates.Rates.{Rates}
 use Rattle.iic.specs.declared.Iic.{Iic}
 use Rattle.hosts.specs.Calls.{Call, peek, read, write, inputPins, setGate, deadline, advance, pins, interrupt, interruptWithEnable, validate, Made, callOf, outcomeOf}
 use Rattle.iic.specs.Told.{Answer, refusal, nothing, byte, bit, noLevels, theLevels, noMoment, moment}
@@ -95,15 +97,15 @@ latestAfter interrupt v was = was
 latestAfter (interruptWithEnable retained) v was = was
 latestAfter (validate now) v was = was
 
--- ## Any calls from the default, refused ones included
+-- ## Any calls from the default with any one rate set, refused ones included
 
 -- the state that the latest call returned or left, refused or not, and what the latest read showed
 pub record Past : Type 0 where
   pub state : Iic
   pub latest : Latest
 
-unfoldable pub begin : Past
-begin = record { state = defaultIic; latest = noRead }
+unfoldable pub begin : Rates → Past
+begin rates = record { state = initial rates; latest = noRead }
 
 -- one more call, whatever it answers
 unfoldable pub next : Clocks → Call → Past → Past
@@ -118,16 +120,16 @@ past clocks p [] = p
 past clocks p (m ∷ l) = past clocks (next clocks (callOf m) p) l
 
 -- after these calls, from the default
-abbrev pub reached : Clocks → List Made → Past
-reached clocks l = past clocks begin l
+abbrev pub reached : Rates → Clocks → List Made → Past
+reached rates clocks l = past clocks (begin rates) l
 
 -- ICSR before one more call
-abbrev pub before : Clocks → List Made → ℕ
-before clocks l = statusOf (reached clocks l .state)
+abbrev pub before : Rates → Clocks → List Made → ℕ
+before rates clocks l = statusOf (reached rates clocks l .state)
 
 -- ICSR after it, a write, answered or refused
-abbrev pub written : Clocks → List Made → ℕ → ℕ → Time → ℕ
-written clocks l a value now = statusOf (outcomeOf clocks (write a value now) (reached clocks l .state) .state)
+abbrev pub written : Rates → Clocks → List Made → ℕ → ℕ → Time → ℕ
+written rates clocks l a value now = statusOf (outcomeOf clocks (write a value now) (reached rates clocks l .state) .state)
 
 -- ## What a status write can do
 
@@ -144,20 +146,20 @@ RaisesOnlyTdre was is = (f : Flag) → isSet f was ≡ false → isSet f is ≡ 
 abbrev pub ClearsNothing : (was is : ℕ) → Type 0
 ClearsNothing was is = (f : Flag) → isSet f was ≡ true → isSet f is ≡ true
 
--- Over any calls from the default, refused ones included, and any clock set: a status write, answered or refused, clears only flags that the
+-- Over any calls from the default, with any rate set and any clock set, refused ones included: a status write, answered or refused, clears only flags that the
 -- latest answered read of ICSR showed set and that the write gave as 0, and raises none but TDRE.
 abbrev pub StatusWrites : Type 0
 StatusWrites =
-    (clocks : Clocks) (l : List Made) (a value : ℕ) (now : Time) → isStatus a ≡ true
-    → ClearsOnlyShown (shown (reached clocks l .latest)) value (before clocks l) (written clocks l a value now)
-    × RaisesOnlyTdre (before clocks l) (written clocks l a value now)
+    (rates : Rates) (clocks : Clocks) (l : List Made) (a value : ℕ) (now : Time) → isStatus a ≡ true
+    → ClearsOnlyShown (shown (reached rates clocks l .latest)) value (before rates clocks l) (written rates clocks l a value now)
+    × RaisesOnlyTdre (before rates clocks l) (written rates clocks l a value now)
 
 -- Before any read it clears nothing.
 abbrev pub BeforeAnyRead : Type 0
 BeforeAnyRead =
-    (clocks : Clocks) (l : List Made) (a value : ℕ) (now : Time) → isStatus a ≡ true
-    → reached clocks l .latest ≡ noRead
-    → ClearsNothing (before clocks l) (written clocks l a value now)
+    (rates : Rates) (clocks : Clocks) (l : List Made) (a value : ℕ) (now : Time) → isStatus a ≡ true
+    → reached rates clocks l .latest ≡ noRead
+    → ClearsNothing (before rates clocks l) (written rates clocks l a value now)
 
 -- ## What every reached state meets
 
@@ -175,13 +177,16 @@ FrameToGo (InFrame f) = ToGo (f .phase) (f .remaining)
 abbrev pub Ranges : Iic → Type 0
 Ranges s = (s .registers .count ≤ 7) × (bitAnd (s .registers .mode) 0xc0 ≡ s .registers .mode)
 
--- Both, and so 9 and 10 are drawn by no such state: of the refusals that stand before a call there is only 1, for a clock set with a zero; and
--- `validate` is left with 9 for an eighth fall later than now, and with what the waits draw, 11 or 12.
-pub record Met (clocks : Clocks) (s : Iic) : Type 0 where
+-- Both, and the rate set that was given; so 9 and 10 are drawn by no such state: of the refusals that stand before a call there are only 1, for a
+-- clock set with a zero, and 14, for the rate set; and `validate` is left with 14, with 9 for an eighth fall later than now, and with what the waits
+-- draw, 11 or 12.
+pub record Met (rates : Rates) (clocks : Clocks) (s : Iic) : Type 0 where
+  pub given : s .rates ≡ rates
   pub ranges : Ranges s
   pub frame : FrameToGo (s .frame)
-  pub guard : guardBy (hasZero clocks) s ≡ cond (hasZero clocks) 1 0
-  pub valid : (now : Time) → validateOf s now ≡ cond (not (fellBy (s .«eighth_fall») now)) 9 (waitsRefusal s)
+  pub guard : guardBy (hasZero clocks) s ≡ cond (hasZero clocks) 1 (cond (not (ratesHold rates)) 14 0)
+  pub valid : (now : Time)
+      → validateOf s now ≡ cond (not (ratesHold rates)) 14 (cond (not (fellBy (s .«eighth_fall») now)) 9 (waitsRefusal s))
 
 abbrev pub ReachedStates : Type 0
-ReachedStates = (clocks : Clocks) (l : List Made) → Met clocks (reached clocks l .state)
+ReachedStates = (rates : Rates) (clocks : Clocks) (l : List Made) → Met rates clocks (reached rates clocks l .state)

@@ -30,6 +30,7 @@ use Rattle.waits.specs.declared.NewHalf.the-variants as half
 use Rattle.waits.specs.Ends.{dueOf, halfEnd, turnHalf, turnWait}
 use Rattle.waits.specs.Half.{halfAfter, madeHalf}
 use Rattle.waits.specs.Rates.{monitorHalves, periodOf, setupCycles}
+use Rattle.waits.specs.declared.rates.Rates.{Rates}
 use Rattle.iic.specs.Answers.{andThen, goOn}
 use Rattle.iic.specs.Bits.{BBSY, IICRST, RDRF, TDRE, TEND}
 use Rattle.iic.specs.Clocking.{clockStepOf, filterFiresOf, fireClockOf, fireFilterOf, fireMonitorOf, fireSetupOf, firing, monitorStepOf, stretchOf, toggleOf}
@@ -54,7 +55,7 @@ use Rattle.iic.specs.declared.Iic.{Iic}
 use Rattle.iic.specs.declared.Register.{Register}
 use Rattle.iic.specs.declared.Register.the-variants.{ICCR1, ICCR2, ICDRR, ICDRT, ICIER, ICMR, ICSR, SAR}
 use Rattle.iic.specs.declared.Stepped.{Stepped}
-use Rattle.flags.specs.Invariant.{Ends, Fact, Keeps, Kept, Within}
+use Rattle.flags.specs.Invariant.{Bound, Ends, Fact, Keeps, Kept, Within}
 use Rattle.flags.specs.Masks.{masked-set}
 use Rattle.flags.specs.Untimed.{any-status, begun-kept, bus-kept, clocked-kept, continued-kept, control-kept, end-kept, fall-data-kept, fall-idle-kept, fall-taken-kept, follow-kept, hold-kept, load-kept, mode-kept, next-kept, pull-kept, raised-kept, reset-kept, rising-kept, show-kept, stop-kept}
 
@@ -105,15 +106,15 @@ module _ {P : Fact} where
 module _ (P : Fact) (now : Time) (system : Domain) where
   start-clock : Keeps P (startClockOf now system)
   unfolding startClockOf
-  start-clock u h = clock-from (halfAfter now (periodOf (u .registers .control)) system) u h
+  start-clock u h = clock-from (halfAfter now (periodOf (u .rates) (u .registers .control)) system) u h
 
   start-monitor : Keeps P (startMonitorOf now system)
   unfolding startMonitorOf
-  start-monitor u h = monitor-from (halfAfter now (monitorHalves (u .registers .control)) system) u h
+  start-monitor u h = monitor-from (halfAfter now (monitorHalves (u .rates) (u .registers .control)) system) u h
 
   start-setup : Keeps P (startSetupOf now system)
   unfolding startSetupOf
-  start-setup u h = setup-from (systemAfter now (setupCycles (u .registers .control)) system) u h
+  start-setup u h = setup-from (systemAfter now (setupCycles (u .rates) (u .registers .control)) system) u h
 
   pub schedule-filter : Keeps P (scheduleFilterOf now system)
   unfolding scheduleFilterOf
@@ -135,7 +136,7 @@ module _ (P : Fact) (now : Time) (system : Domain) where
       go NoHalf = left h
       go (Half w) = monitor-from (turnHalf gate now system w) u h
 
-  module _ (tdre : (status seen : ℕ) → P status seen → P (bitOr status TDRE) seen) where
+  module _ (tdre : (status seen : ℕ) (r : Rates) → P status seen r → P (bitOr status TDRE) seen r) where
     command-in : (c : Command) → Keeps P (commandIn c now system)
     command-in NoCommand u h = left h
     command-in (Commanded start) u h = start-clock (begunOf start u) (begun-kept P start u h)
@@ -179,9 +180,9 @@ module _ (P : Fact) (now : Time) (k : Clocks) where
       go NoWait = left h
       go (Waiting w) = setup-from (turnWait gate now k w) u h
 
--- ## The others, with `seen` within a byte
+-- ## The others, with `seen` within a byte and one rate set
 
-module _ (b : ℕ) (now : Time) (system : Domain) where
+module _ (b : Bound) (now : Time) (system : Domain) where
   abbrev Good : Iic → Type 0
   Good u = Kept (Within b) u
 
@@ -204,7 +205,7 @@ module _ (b : ℕ) (now : Time) (system : Domain) where
 
   longer-ends : (w : MaybeHalf) → Keeps (Within b) (longer w)
   longer-ends NoHalf u h = left h
-  longer-ends (Half w) u h = clock-from (madeHalf (w .paused) (fits (w .count + 4 * periodOf (u .registers .control)))) u h
+  longer-ends (Half w) u h = clock-from (madeHalf (w .paused) (fits (w .count + 4 * periodOf (u .rates) (u .registers .control)))) u h
 
   insert-wait : Keeps (Within b) insertWaitOf
   unfolding insertWaitOf
@@ -298,8 +299,8 @@ module _ (b : ℕ) (now : Time) (system : Domain) where
   -- ## Registers
 
   -- fewer flags in `seen`
-  fewer : (u : Iic) (m : ℕ) → Good u → Within b (u .registers .status) (bitAnd (u .registers .seen) m)
-  fewer u m h f e = h .0 f (masked-set f (u .registers .seen) m e)
+  fewer : (u : Iic) (m : ℕ) → Good u → Within b (u .registers .status) (bitAnd (u .registers .seen) m) (u .rates)
+  fewer u m h = (λ f e. h .0 .0 f (masked-set f (u .registers .seen) m e), h .0 .1)
 
   resumed : Keeps (Within b) (resumedOf now system)
   unfolding resumedOf

@@ -31,7 +31,8 @@ use Rattle.iic.specs.declared.Iic.{Iic}
 use Rattle.iic.specs.declared.EighthFall.the-variants.{FellAt}
 use Rattle.iic.specs.declared.Hold.{Hold}
 use Rattle.iic.specs.declared.Hold.the-variants.{Receive, Transmit}
-use Rattle.flags.specs.Invariant.{Fact, Kept, Within}
+use Rattle.waits.specs.declared.rates.Rates.{Rates}
+use Rattle.flags.specs.Invariant.{Bound, Fact, Kept, Within}
 use Rattle.flags.specs.Masks.{masked-mode}
 use Rattle.flags.specs.StatusWrites.{FrameToGo, ToGo}
 
@@ -98,10 +99,10 @@ module _ (P : Fact) where
   unfolding begunOf
   begun-kept start s h = (h .0, h .1, tt)
 
-  module _ (tdre : (status seen : ℕ) → P status seen → P (bitOr status TDRE) seen) where
+  module _ (tdre : (status seen : ℕ) (r : Rates) → P status seen r → P (bitOr status TDRE) seen r) where
     load-in : (fr : Framing) (s : Iic) → FrameToGo fr → Kept P s → Kept P (loadIn fr s)
     load-in NoFrame s g h = h
-    load-in (InFrame f) s g h = if-kept (canLoad s f) _ _ (tdre (s .registers .status) (s .registers .seen) (h .0), h .1, g) h
+    load-in (InFrame f) s g h = if-kept (canLoad s f) _ _ (tdre (s .registers .status) (s .registers .seen) (s .rates) (h .0), h .1, g) h
 
     pub load-kept : (s : Iic) → Kept P s → Kept P (loadTransmitOf s)
     unfolding loadTransmitOf
@@ -115,15 +116,15 @@ module _ (P : Fact) where
     unfolding nextFrameOf
     next-kept s h = if-kept (frameDue s) _ _ (begin-kept false s h) h
 
--- ## The others, with `seen` within a byte
+-- ## The others, with `seen` within a byte and one rate set
 
-module _ (b : ℕ) where
+module _ (b : Bound) where
   abbrev Good : Iic → Type 0
   Good s = Kept (Within b) s
 
   -- ICSR doesn't matter to it
-  pub any-status : (status seen : ℕ) → Within b status seen → Within b (bitOr status TDRE) seen
-  any-status status seen h = h
+  pub any-status : (status seen : ℕ) (r : Rates) → Within b status seen r → Within b (bitOr status TDRE) seen r
+  any-status status seen r h = h
 
   -- ## The shifter
 

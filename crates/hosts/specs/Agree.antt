@@ -30,7 +30,8 @@ use Rattle.iic.specs.Calls.{guardBy, takePinsOf, turnGateOf, visitOf, readOf, i
 use Rattle.iic.specs.Clocking.{firing, filterFiresOf, stretchOf, clockStepOf, fireFilterOf, fireSetupOf, fireMonitorOf, fireClockOf}
 use Rattle.iic.specs.Kick.{kickOf}
 use Rattle.iic.specs.Setters.{setClockWait, setMonitorWait, setSetupWait}
-use Rattle.iic.specs.State.{defaultIic, awake, driveScl}
+use Rattle.iic.specs.State.{initial, awake, driveScl}
+use Rattle.waits.specs.declared.rates.Rates.{Rates}
 use Rattle.waits.specs.Ends.{waitEnd, halfEnd, dueOf}
 use Rattle.hosts.specs.Calls.{Call, peek, read, write, inputPins, setGate, deadline, advance, pins, interrupt, interruptWithEnable, validate, Made, callOf, outcomeOf, Host, start, after, afterAll, hostWith, isNow, waitsDue, anyDue, idleRead, idle}
 use Rattle.iic.specs.Told.{isRefusal}
@@ -194,9 +195,9 @@ runs-agree k (suc (suc n)) h (x ∷ l) (y ∷ m) p q r t a b e ok =
     runs-agree k (suc n) (after k (x .call) h) l m p q (r .1 fine-x) second a b rest (or-right (isRefusal (x .answer)) _ ok)
 
 -- the default is settled
-good-start : Good start
-unfolding start defaultIic settled
-good-start e = refl
+good-start : (r : Rates) → Good (start r)
+unfolding start initial settled
+good-start r e = refl
 
 -- ## Idle calls on the way
 
@@ -215,14 +216,15 @@ good-all k (m ∷ l) h g ok = go (idle k (callOf m) h) refl (λ h′ g′ ok′.
 
 -- document 01: an idle visit that is refused changes nothing either. After any calls from the default, none of those left refused, no idle
 -- call changes anything, answered or refused.
-pub idle-changes-nothing : (k : Clocks) (l : List Made) (x : Call) → anyRefused (leftOf k l) ≡ false
-    → idle k x (afterAll k start (map callOf l)) ≡ true → after k x (afterAll k start (map callOf l)) ≡ afterAll k start (map callOf l)
-idle-changes-nothing k l x ok i = idle-same k x (afterAll k start (map callOf l)) (good-all k l start good-start ok) i
+pub idle-changes-nothing : (r : Rates) (k : Clocks) (l : List Made) (x : Call) → anyRefused (leftOf r k l) ≡ false
+    → idle k x (afterAll k (start r) (map callOf l)) ≡ true → after k x (afterAll k (start r) (map callOf l)) ≡ afterAll k (start r) (map callOf l)
+idle-changes-nothing r k l x ok i = idle-same k x (afterAll k (start r) (map callOf l)) (good-all k l (start r) (good-start r) ok) i
 
 -- ## Demand 3
 
 pub two-hosts-agree : TwoHostsAgree
-two-hosts-agree clocks one other k p q a b e ok =
+two-hosts-agree rates clocks one other k p q a b e ok =
     let same : p ≡ q =
-    runs-agree clocks k start (leftOf clocks one) (leftOf clocks other) p q (left-runs clocks one start good-start) (left-runs clocks other start good-start) a b e ok in
+    runs-agree clocks k (start rates) (leftOf rates clocks one) (leftOf rates clocks other) p q (left-runs clocks one (start rates) (good-start rates))
+    (left-runs clocks other (start rates) (good-start rates)) a b e ok in
     (ap (λ (z : Left). z .answer) same, ap (λ (z : Left). z .state) same)

@@ -14,7 +14,8 @@ use Rattle.iic.specs.declared.Register.the-variants.{ICCR1, ICCR2, ICMR, ICIER,
 use Rattle.iic.specs.Told.{Answer, byte, bit, ofEnd, ofByte, ofTruth, ofDeadline, ofPins, ofNumber}
 use Rattle.iic.specs.Reading.{registerAt}
 use Rattle.iic.specs.Calls.{peekOf, readOf, writeOf, inputPinsOf, setGateOf, deadlineOf, advanceOf, pinsOf, interruptWithEnableOf, validateOf}
-use Rattle.iic.specs.State.{defaultIic, framed}
+use Rattle.iic.specs.State.{framed, initial}
+use Rattle.waits.specs.declared.rates.Rates.{Rates}
 use Rattle.waits.specs.Ends.{waitEnd, halfEnd, dueOf}
 
 -- ## Calls
@@ -77,8 +78,8 @@ pub record Host : Type 0 where
   pub lifted : Bool
 
 -- each host starts from the default
-unfoldable pub start : Host
-start = record { state = defaultIic; lifted = false }
+unfoldable pub start : Rates → Host
+start rates = record { state = initial rates; lifted = false }
 
 -- document 01: IICRST in ICCR2 is 1 before the write and 0 after it
 abbrev pub lifts : Iic → Iic → Bool

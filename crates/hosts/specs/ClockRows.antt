@@ -27,6 +27,7 @@ use Rattle.iic.specs.Shift as Shift
 use Rattle.waits.specs.Ends as Ends
 use Rattle.waits.specs.Half as Half
 use Rattle.waits.specs.Rates as Rates
+use Rattle.waits.specs.Rates.{defaultRates}
 use Rattle.time.specs.Time.{timeOf}
 use Rattle.time.specs.Clock.{edgesBefore}
 use Rattle.time.specs.Laws.{none-before}
@@ -72,12 +73,12 @@ none-yet = none-before (late .system .clock) (timeOf (at 0) + 1) (lit< tt) (lit<
 
 -- a half wait is started all the same
 late-half : halfAfter (at 0) 28 (late .system) ≡ half.Made (halfWait false 29)
-unfolding Time.earlier Time.midway Time.momentOf Time.nextTime Time.sumOf Clock.afterOf Clock.edgeOf Clock.edgesBeforeOf Clock.zeroIn Counts.fits Domain.domainHalfTicks Domain.domainTicks Domain.edgeOrLast Domain.halves Domain.halvesOf Domain.highBetween Domain.levelHigh Half.halfAfter State.defaultIic Hosts.start
+unfolding Time.earlier Time.midway Time.momentOf Time.nextTime Time.sumOf Clock.afterOf Clock.edgeOf Clock.edgesBeforeOf Clock.zeroIn Counts.fits Domain.domainHalfTicks Domain.domainTicks Domain.edgeOrLast Domain.halves Domain.halvesOf Domain.highBetween Domain.levelHigh Half.halfAfter State.initial Hosts.start Rates.ratesHold Rates.lengthsHold Rates.monitorBelow Rates.monitorHalves Rates.periodOf Rates.rate
 late-half = rw none-yet refl
 
 -- a wait for an edge is refused
 pub late-wait : systemAfter (at 0) 1 (late .system) ≡ wait.Refused 7
-unfolding Time.momentOf Time.nextTime Clock.afterOf Clock.edgeOf Clock.edgesBeforeOf Clock.zeroIn Domain.domainTicks Counts.fits Wait.dated System.domainDeadline Wait.startedBy System.systemStartedAt System.systemAfter State.defaultIic Hosts.start
+unfolding Time.momentOf Time.nextTime Clock.afterOf Clock.edgeOf Clock.edgesBeforeOf Clock.zeroIn Domain.domainTicks Counts.fits Wait.dated System.domainDeadline Wait.startedBy System.systemStartedAt System.systemAfter State.initial Hosts.start Rates.ratesHold Rates.lengthsHold Rates.monitorBelow Rates.monitorHalves Rates.periodOf Rates.rate
 late-wait = rw none-yet refl
 
 -- 1 Hz from second 1 on: edge 1 is at second 2
@@ -88,7 +89,7 @@ no-tick-yet : edgesBefore (ticking .system .clock) (timeOf (at 0) + 1) ≡ 0
 no-tick-yet = none-before (ticking .system .clock) (timeOf (at 0) + 1) (lit< tt) (lit< tt) (lit≤ tt)
 
 ticking-wait : systemAfter (at 0) 1 (ticking .system) ≡ wait.Made (waitOf (systemTap 1) (Running 1))
-unfolding Time.momentOf Time.nextTime Clock.afterOf Clock.edgeOf Clock.edgesBeforeOf Clock.zeroIn Domain.domainTicks Counts.fits Wait.dated System.domainDeadline Wait.startedBy System.systemStartedAt System.systemAfter State.defaultIic Hosts.start
+unfolding Time.momentOf Time.nextTime Clock.afterOf Clock.edgeOf Clock.edgesBeforeOf Clock.zeroIn Domain.domainTicks Counts.fits Wait.dated System.domainDeadline Wait.startedBy System.systemStartedAt System.systemAfter State.initial Hosts.start Rates.ratesHold Rates.lengthsHold Rates.monitorBelow Rates.monitorHalves Rates.periodOf Rates.rate
 ticking-wait = rw no-tick-yet refl
 
 -- ## Hosts on the way
@@ -133,31 +134,31 @@ third = setGate true (at 0) ∷ write 0 0x80 (at 0) ∷ []
 
 clock-rows :
     -- the visit is struck, though the wait's time is refused, and what follows is left
-    (calls (leftOf late (made (first ++ (write 0 0xa0 (at 0) ∷ advance (at 0) ∷ write 3 0x10 (at 0) ∷ []))))
+    (calls (leftOf defaultRates late (made (first ++ (write 0 0xa0 (at 0) ∷ advance (at 0) ∷ write 3 0x10 (at 0) ∷ []))))
     ≡ first ++ (write 0 0xa0 (at 0) ∷ write 3 0x10 (at 0) ∷ []))
     -- that visit is refused and changes nothing
     × (outcomeOf late (advance (at 0)) (setClockWait (maybe.Half (halfWait false 29)) receiving)
     ≡ outcome (refusal 7) (setClockWait (maybe.Half (halfWait false 29)) receiving))
     -- the first visit starts a frame, the second doesn't
-    × (calls (leftOf late (made (second ++ (write 0 0x80 (at 0) ∷ advance (at 0) ∷ advance (at 0) ∷ []))))
+    × (calls (leftOf defaultRates late (made (second ++ (write 0 0x80 (at 0) ∷ advance (at 0) ∷ advance (at 0) ∷ []))))
     ≡ second ++ (write 0 0x80 (at 0) ∷ advance (at 0) ∷ []))
     -- the filter's wait is due at second 2 alone
-    × (calls (leftOf ticking (made (third ++ (inputPins true false (at 0) ∷ advance (at 1) ∷ advance (at 3) ∷ advance (at 2) ∷ []))))
+    × (calls (leftOf defaultRates ticking (made (third ++ (inputPins true false (at 0) ∷ advance (at 1) ∷ advance (at 3) ∷ advance (at 2) ∷ []))))
     ≡ third ++ (inputPins true false (at 0) ∷ advance (at 2) ∷ []))
-unfolding Time.midway Time.momentOf Time.sameTime Clock.afterOf Clock.edgeOf Clock.zeroIn Clocks.availableOf Clocks.fedBy Clocks.hasZero Clocks.routedEdge Clocks.sourceOf Clocks.tapEdge Domain.domainHalfEdge Domain.oddEdge Counts.fits Tap.routeOf Tap.routeS Tap.routeW Tap.stageBelow Tap.stageOf Wait.dated Wait.edgeDeadline Wait.waitDeadline Reading.continuedOf Writing.controlSet Writing.enterResetOf Writing.giveDataOf Reading.peekAt Writing.pullSdaOf Reading.readAt Reading.readDataOf Parts.redirectFrame Writing.redirected Reading.registerAt Reading.resumedOf Writing.sendOnOf Writing.stopReceiveOf Writing.takeControlOf Reading.takenOf Writing.writeAddressOf Writing.writeAt Writing.outOfResetOf Writing.writeControlOf Writing.writeDataOf Writing.writeEnableOf Writing.writeModeOf Writing.writeCommandOf Writing.writeStatusOf Iic.advanceOf Iic.inputPinsOf Iic.keepStretchedOf Iic.peekOf Iic.readOf Iic.setGateOf Iic.takePinsOf Iic.turnGateOf Iic.turnWaitsOf Iic.visitOf Iic.writeOf Clocking.fireClockOf Clocking.fireFilterOf Clocking.fireMonitorOf Clocking.fireSetupOf Half.halfDeadline Kick.clockFrameOf Kick.kickOf Kick.launchOf Ready.lowHalfOf Ready.nextFrameOf Shift.beginFrameOf Shift.loadTransmitOf Shift.setHoldOf State.defaultIic State.stopShifterOf Ends.dueOf Ends.halfEnd Rates.periodOf Rates.rate Waits.scheduleFilterOf Waits.startClockOf Waits.turnClockOf Waits.turnFilterOf Waits.turnMonitorOf Waits.turnSetupOf Ends.waitEnd Hosts.after Hosts.anyDue Hosts.idle Hosts.outcomeOf Hosts.start Demand3.left
+unfolding Time.midway Time.momentOf Time.sameTime Clock.afterOf Clock.edgeOf Clock.zeroIn Clocks.availableOf Clocks.fedBy Clocks.hasZero Clocks.routedEdge Clocks.sourceOf Clocks.tapEdge Domain.domainHalfEdge Domain.oddEdge Counts.fits Tap.routeOf Tap.routeS Tap.routeW Tap.stageBelow Tap.stageOf Wait.dated Wait.edgeDeadline Wait.waitDeadline Reading.continuedOf Writing.controlSet Writing.enterResetOf Writing.giveDataOf Reading.peekAt Writing.pullSdaOf Reading.readAt Reading.readDataOf Parts.redirectFrame Writing.redirected Reading.registerAt Reading.resumedOf Writing.sendOnOf Writing.stopReceiveOf Writing.takeControlOf Reading.takenOf Writing.writeAddressOf Writing.writeAt Writing.outOfResetOf Writing.writeControlOf Writing.writeDataOf Writing.writeEnableOf Writing.writeModeOf Writing.writeCommandOf Writing.writeStatusOf Iic.advanceOf Iic.inputPinsOf Iic.keepStretchedOf Iic.peekOf Iic.readOf Iic.setGateOf Iic.takePinsOf Iic.turnGateOf Iic.turnWaitsOf Iic.visitOf Iic.writeOf Clocking.fireClockOf Clocking.fireFilterOf Clocking.fireMonitorOf Clocking.fireSetupOf Half.halfDeadline Kick.clockFrameOf Kick.kickOf Kick.launchOf Ready.lowHalfOf Ready.nextFrameOf Shift.beginFrameOf Shift.loadTransmitOf Shift.setHoldOf State.initial State.stopShifterOf Ends.dueOf Ends.halfEnd Rates.periodOf Rates.rate Waits.scheduleFilterOf Waits.startClockOf Waits.turnClockOf Waits.turnFilterOf Waits.turnMonitorOf Waits.turnSetupOf Ends.waitEnd Hosts.after Hosts.anyDue Hosts.idle Hosts.outcomeOf Hosts.start Demand3.left Rates.ratesHold Rates.lengthsHold Rates.monitorBelow Rates.monitorHalves
 clock-rows =
-    let clocked : outcomeOf late (write 0 0xa0 (at 0)) (afterAll late start first .state) ≡ outcome nothing (setClockWait (maybe.Half (halfWait false 29)) receiving) =
+    let clocked : outcomeOf late (write 0 0xa0 (at 0)) (afterAll late (start defaultRates) first .state) ≡ outcome nothing (setClockWait (maybe.Half (halfWait false 29)) receiving) =
     ap (λ (w : NewHalf). ofStep (clockFrom w receiving)) late-half in
-    let refused : outcomeOf late (write 0 0x80 (at 0)) (afterAll late start second .state) ≡ outcome (refusal 7) unkicked =
+    let refused : outcomeOf late (write 0 0x80 (at 0)) (afterAll late (start defaultRates) second .state) ≡ outcome (refusal 7) unkicked =
     ap (λ (w : NewWait). ofStep (andThen (andThen (filterFrom w unkicked) (λ u. fine (stopReceiveOf u))) (kickOf (at 0) (late .system)))) late-wait in
-    let filtering : outcomeOf ticking (inputPins true false (at 0)) (afterAll ticking start third .state)
+    let filtering : outcomeOf ticking (inputPins true false (at 0)) (afterAll ticking (start defaultRates) third .state)
     ≡ outcome (bit true) (setFilterWait (Waiting (waitOf (systemTap 1) (Running 1))) fallen) =
     ap (λ (w : NewWait). outcome (ofTruth (truthOf (filterFrom w fallen .ended) true)) (filterFrom w fallen .state)) ticking-wait in (
       ap (λ (l : List Left). first ++ calls l)
-          (then-left late (afterAll late start first) (write 0 0xa0 (at 0)) (made (advance (at 0) ∷ write 3 0x10 (at 0) ∷ [])) _ refl clocked),
+          (then-left late (afterAll late (start defaultRates) first) (write 0 0xa0 (at 0)) (made (advance (at 0) ∷ write 3 0x10 (at 0) ∷ [])) _ refl clocked),
       refl,
       ap (λ (l : List Left). second ++ calls l)
-          (then-left late (afterAll late start second) (write 0 0x80 (at 0)) (made (advance (at 0) ∷ advance (at 0) ∷ [])) _ refl refused),
+          (then-left late (afterAll late (start defaultRates) second) (write 0 0x80 (at 0)) (made (advance (at 0) ∷ advance (at 0) ∷ [])) _ refl refused),
       ap (λ (l : List Left). third ++ calls l)
-          (then-left ticking (afterAll ticking start third) (inputPins true false (at 0)) (made (advance (at 1) ∷ advance (at 3) ∷ advance (at 2) ∷ [])) _ refl filtering),
+          (then-left ticking (afterAll ticking (start defaultRates) third) (inputPins true false (at 0)) (made (advance (at 1) ∷ advance (at 3) ∷ advance (at 2) ∷ [])) _ refl filtering),
     )

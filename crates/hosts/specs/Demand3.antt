@@ -6,6 +6,7 @@ use mathlib.Core.Path.{_≡_}
 use lib.ListN.{take}
 use Rattle.clocks.specs.declared.Clocks.{Clocks}
 use Rattle.iic.specs.declared.Iic.{Iic}
+use Rattle.waits.specs.declared.rates.Rates.{Rates}
 use Rattle.hosts.specs.Calls.{Call, Made, callOf, outcomeOf, Host, start, after, idle}
 use Rattle.iic.specs.Told.{Answer, isRefusal}
 
@@ -28,9 +29,9 @@ left clocks h (m ∷ l) =
     cond (idle clocks (callOf m) h) (left clocks (after clocks (callOf m) h) l)
     (played clocks (callOf m) h ∷ left clocks (after clocks (callOf m) h) l)
 
--- of a list that starts from the default
-abbrev pub leftOf : Clocks → List Made → List Left
-leftOf clocks l = left clocks start l
+-- of a list that starts from the default, with a rate set
+abbrev pub leftOf : Rates → Clocks → List Made → List Left
+leftOf rates clocks l = left clocks (start rates) l
 
 -- the names, times and operands of the calls left
 abbrev pub calls : List Left → List Call
@@ -54,14 +55,14 @@ anyRefused (p ∷ l) = isRefusal (p .answer) || anyRefused l
 
 -- ## Demand 3
 
--- Any two lists of calls, each from the default, over one clock set, whatever it holds. With the idle calls struck out of each list, the
+-- Any two lists of calls, each from the default, with one rate set and over one clock set, whatever they hold. With the idle calls struck out of each list, the
 -- k-th call left has the same answer in both, value or refusal number, and every field of the state is equal after it, if the first k
 -- calls left are the same and none before the k-th was refused.
 abbrev pub TwoHostsAgree : Type 0
 TwoHostsAgree =
-    (clocks : Clocks) (one other : List Made) (k : ℕ) (p q : Left)
-    → IsKth k (leftOf clocks one) p
-    → IsKth k (leftOf clocks other) q
-    → take k (calls (leftOf clocks one)) ≡ take k (calls (leftOf clocks other))
-    → anyRefused (before k (leftOf clocks one)) ≡ false
+    (rates : Rates) (clocks : Clocks) (one other : List Made) (k : ℕ) (p q : Left)
+    → IsKth k (leftOf rates clocks one) p
+    → IsKth k (leftOf rates clocks other) q
+    → take k (calls (leftOf rates clocks one)) ≡ take k (calls (leftOf rates clocks other))
+    → anyRefused (before k (leftOf rates clocks one)) ≡ false
     → (p .answer ≡ q .answer) × (p .state ≡ q .state)

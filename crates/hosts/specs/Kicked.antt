@@ -98,7 +98,7 @@ command-settles : (now : Time) (k : Domain) (c : Command) (s : Iic) → commandR
 unfolding startClockOf begunOf
 command-settles now k NoCommand s h e = absurd (false≢true (rw e at h))
 command-settles now k (Commanded start) s h e =
-    half-leaves Settled setClockWait (halfAfter now (periodOf (s .registers .control)) k) (begunOf start s) (λ v. in-condition _ (begun start))
+    half-leaves Settled setClockWait (halfAfter now (periodOf (s .rates) (s .registers .control)) k) (begunOf start s) (λ v. in-condition _ (begun start))
 
 -- what holds of a state that a kick has given its frame
 record Framed (s : Iic) : Type 0 where
@@ -165,7 +165,7 @@ unfolding launchOf startClockOf lowHalfOf
 launch-settles now k f s true w r l p q = rw p (framed-settled _ r l (rw p (or-true (not (clockDue s)))))
 launch-settles now k f s false true r l p q = rw (p, q) (hold-settles s f (synchronous s) refl r l q)
 launch-settles now k f s false false r l p q =
-    rw (p, q) (half-leaves Settled setClockWait (halfAfter now (periodOf (s .registers .control)) k) (lowHalfOf (levelAt (f .phase) f (setFrame (InFrame f) s)) (setFrame (InFrame f) s)) (λ v.
+    rw (p, q) (half-leaves Settled setClockWait (halfAfter now (periodOf (s .rates) (s .registers .control)) k) (lowHalfOf (levelAt (f .phase) f (setFrame (InFrame f) s)) (setFrame (InFrame f) s)) (λ v.
     framed-settled _ record { no-command = r .no-command; no-frame = refl } l
     (rw (beside-wait (master s) (not (held s)) (not (s .flags .«synchronized_hold»))))))
 

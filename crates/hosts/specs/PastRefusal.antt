@@ -26,6 +26,8 @@ use Rattle.iic.specs.Shift as Shift
 use Rattle.waits.specs.Ends as Ends
 use Rattle.waits.specs.Half as Half
 use Rattle.waits.specs.Rates as Rates
+use Rattle.waits.specs.Rates.{defaultRates}
+use Rattle.waits.specs.declared.rates.Rates.{Rates as RateSet}
 use Rattle.clocks.specs.declared.Clocks.{Clocks}
 use Rattle.clocks.specs.declared.wait.NewWait.{NewWait}
 use Rattle.iic.specs.declared.Iic.{Iic}
@@ -71,16 +73,16 @@ before-it = nothing ∷ nothing ∷ nothing ∷ nothing ∷ byte 0x80 ∷ nothin
 
 worked :
     -- the calls left are the same, nine of them
-    (calls (leftOf late withVisit) ≡ calls (leftOf late withoutVisit))
+    (calls (leftOf defaultRates late withVisit) ≡ calls (leftOf defaultRates late withoutVisit))
     -- the eighth is refused 7 in both, and the ninth, a read of ICSR, answers 80 and 00
-    × (answers (leftOf late withVisit) ≡ before-it ++ (refusal 7 ∷ byte 0x80 ∷ []))
-    × (answers (leftOf late withoutVisit) ≡ before-it ++ (refusal 7 ∷ byte 0x00 ∷ []))
-unfolding Time.midway Time.momentOf Time.sameTime Clock.afterOf Clock.edgeOf Clock.zeroIn Clocks.availableOf Clocks.fedBy Clocks.hasZero Clocks.routedEdge Clocks.sourceOf Clocks.tapEdge Domain.domainHalfEdge Domain.oddEdge Counts.fits Tap.routeOf Tap.routeS Tap.routeW Tap.stageBelow Tap.stageOf Wait.dated Wait.edgeDeadline Wait.waitDeadline Reading.continuedOf Writing.controlSet Writing.enterResetOf Writing.giveDataOf Reading.peekAt Writing.pullSdaOf Reading.readAt Reading.readDataOf Parts.redirectFrame Writing.redirected Reading.registerAt Reading.resumedOf Writing.sendOnOf Writing.stopReceiveOf Writing.takeControlOf Reading.takenOf Writing.writeAddressOf Writing.writeAt Writing.outOfResetOf Writing.writeControlOf Writing.writeDataOf Writing.writeEnableOf Writing.writeModeOf Writing.writeCommandOf Writing.writeStatusOf Iic.advanceOf Iic.inputPinsOf Iic.keepStretchedOf Iic.peekOf Iic.readOf Iic.setGateOf Iic.takePinsOf Iic.turnGateOf Iic.turnWaitsOf Iic.visitOf Iic.writeOf Clocking.fireClockOf Clocking.fireFilterOf Clocking.fireMonitorOf Clocking.fireSetupOf Half.halfDeadline Kick.clockFrameOf Kick.kickOf Kick.launchOf Ready.lowHalfOf Ready.nextFrameOf Shift.beginFrameOf Shift.loadTransmitOf Shift.setHoldOf State.defaultIic State.stopShifterOf Ends.dueOf Ends.halfEnd Rates.periodOf Rates.rate Waits.scheduleFilterOf Waits.startClockOf Waits.turnClockOf Waits.turnFilterOf Waits.turnMonitorOf Waits.turnSetupOf Ends.waitEnd Hosts.after Hosts.anyDue Hosts.idle Hosts.outcomeOf Hosts.start Demand3.left
+    × (answers (leftOf defaultRates late withVisit) ≡ before-it ++ (refusal 7 ∷ byte 0x80 ∷ []))
+    × (answers (leftOf defaultRates late withoutVisit) ≡ before-it ++ (refusal 7 ∷ byte 0x00 ∷ []))
+unfolding Time.midway Time.momentOf Time.sameTime Clock.afterOf Clock.edgeOf Clock.zeroIn Clocks.availableOf Clocks.fedBy Clocks.hasZero Clocks.routedEdge Clocks.sourceOf Clocks.tapEdge Domain.domainHalfEdge Domain.oddEdge Counts.fits Tap.routeOf Tap.routeS Tap.routeW Tap.stageBelow Tap.stageOf Wait.dated Wait.edgeDeadline Wait.waitDeadline Reading.continuedOf Writing.controlSet Writing.enterResetOf Writing.giveDataOf Reading.peekAt Writing.pullSdaOf Reading.readAt Reading.readDataOf Parts.redirectFrame Writing.redirected Reading.registerAt Reading.resumedOf Writing.sendOnOf Writing.stopReceiveOf Writing.takeControlOf Reading.takenOf Writing.writeAddressOf Writing.writeAt Writing.outOfResetOf Writing.writeControlOf Writing.writeDataOf Writing.writeEnableOf Writing.writeModeOf Writing.writeCommandOf Writing.writeStatusOf Iic.advanceOf Iic.inputPinsOf Iic.keepStretchedOf Iic.peekOf Iic.readOf Iic.setGateOf Iic.takePinsOf Iic.turnGateOf Iic.turnWaitsOf Iic.visitOf Iic.writeOf Clocking.fireClockOf Clocking.fireFilterOf Clocking.fireMonitorOf Clocking.fireSetupOf Half.halfDeadline Kick.clockFrameOf Kick.kickOf Kick.launchOf Ready.lowHalfOf Ready.nextFrameOf Shift.beginFrameOf Shift.loadTransmitOf Shift.setHoldOf State.initial State.stopShifterOf Ends.dueOf Ends.halfEnd Rates.periodOf Rates.rate Waits.scheduleFilterOf Waits.startClockOf Waits.turnClockOf Waits.turnFilterOf Waits.turnMonitorOf Waits.turnSetupOf Ends.waitEnd Hosts.after Hosts.anyDue Hosts.idle Hosts.outcomeOf Hosts.start Demand3.left Rates.ratesHold Rates.lengthsHold Rates.monitorBelow Rates.monitorHalves
 worked =
-    let refused : outcomeOf late (setGate true (at 0)) (afterAll late start starving .state) ≡ outcome (refusal 7) starved =
+    let refused : outcomeOf late (setGate true (at 0)) (afterAll late (start defaultRates) starving .state) ≡ outcome (refusal 7) starved =
     ap (λ (w : NewWait). ofStep (andThen (filterFrom w starved) (kickOf (at 0) (late .system)))) late-wait in
-    let more = then-left late (afterAll late start starving) (setGate true (at 0)) (made (advance (at 0) ∷ read 4 (at 0) ∷ [])) _ refl refused in
-    let less = then-left late (afterAll late start starving) (setGate true (at 0)) (made (read 4 (at 0) ∷ [])) _ refl refused in (
+    let more = then-left late (afterAll late (start defaultRates) starving) (setGate true (at 0)) (made (advance (at 0) ∷ read 4 (at 0) ∷ [])) _ refl refused in
+    let less = then-left late (afterAll late (start defaultRates) starving) (setGate true (at 0)) (made (read 4 (at 0) ∷ [])) _ refl refused in (
       ap (λ (l : List Left). starving ++ calls l) more ∙ sym (ap (λ (l : List Left). starving ++ calls l) less),
       ap (λ (l : List Left). before-it ++ answers l) more,
       ap (λ (l : List Left). before-it ++ answers l) less,
@@ -91,10 +93,10 @@ worked =
 -- demand 3 without "none before the k-th was refused"
 abbrev PastRefusals : Type 0
 PastRefusals =
-    (clocks : Clocks) (one other : List Made) (k : ℕ) (p q : Left)
-    → IsKth k (leftOf clocks one) p
-    → IsKth k (leftOf clocks other) q
-    → take k (calls (leftOf clocks one)) ≡ take k (calls (leftOf clocks other))
+    (rates : RateSet) (clocks : Clocks) (one other : List Made) (k : ℕ) (p q : Left)
+    → IsKth k (leftOf rates clocks one) p
+    → IsKth k (leftOf rates clocks other) q
+    → take k (calls (leftOf rates clocks one)) ≡ take k (calls (leftOf rates clocks other))
     → (p .answer ≡ q .answer) × (p .state ≡ q .state)
 
 kth-answer : (k : ℕ) (l : List Left) (a : Answer) → IsKth k (answers l) a → (p : Left) × IsKth k l p × (p .answer ≡ a)
@@ -108,8 +110,8 @@ differ e = let z : _≡_ {A = ℕ} 0x80 0x00 = cc in omega arith
 
 pub not-past-refusals : PastRefusals → ⊥
 not-past-refusals claim =
-    let p = kth-answer 9 (leftOf late withVisit) (byte 0x80) (subst (λ (l : List Answer). IsKth 9 l (byte 0x80)) (sym (worked .1)) refl) in
-    let q = kth-answer 9 (leftOf late withoutVisit) (byte 0x00) (subst (λ (l : List Answer). IsKth 9 l (byte 0x00)) (sym (worked .2)) refl) in
+    let p = kth-answer 9 (leftOf defaultRates late withVisit) (byte 0x80) (subst (λ (l : List Answer). IsKth 9 l (byte 0x80)) (sym (worked .1)) refl) in
+    let q = kth-answer 9 (leftOf defaultRates late withoutVisit) (byte 0x00) (subst (λ (l : List Answer). IsKth 9 l (byte 0x00)) (sym (worked .2)) refl) in
     let same : p .0 .answer ≡ q .0 .answer =
-    claim late withVisit withoutVisit 9 (p .0) (q .0) (p .1) (q .1) (ap (λ (l : List Call). take 9 l) (worked .0)) .0 in
+    claim defaultRates late withVisit withoutVisit 9 (p .0) (q .0) (p .1) (q .1) (ap (λ (l : List Call). take 9 l) (worked .0)) .0 in
     differ (sym (p .2) ∙ same ∙ q .2)

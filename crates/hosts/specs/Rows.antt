@@ -21,6 +21,8 @@ use Rattle.frames.specs.Parts as Parts
 use Rattle.iic.specs.Calls as Iic
 use Rattle.iic.specs.Clocking as Clocking
 use Rattle.iic.specs.Kick as Kick
+use Rattle.waits.specs.Rates as Rates
+use Rattle.waits.specs.Rates.{defaultRates}
 use Rattle.iic.specs.State as State
 use Rattle.iic.specs.Waiting as Waits
 use Rattle.iic.specs.Reading as Reading
@@ -141,11 +143,11 @@ lastAnswer [] a = a
 lastAnswer (p ∷ l) a = lastAnswer l (p .answer)
 
 abbrev worked : Row → List Call × Answer
-worked r = (calls (leftOf still (r .made-by)), lastAnswer (leftOf still (r .made-by)) nothing)
+worked r = (calls (leftOf defaultRates still (r .made-by)), lastAnswer (leftOf defaultRates still (r .made-by)) nothing)
 
 abbrev expected : Row → List Call × Answer
 expected r = (r .left-are, r .last-says)
 
 rows-hold : map worked rows ≡ map expected rows
-unfolding Time.earlier Time.nextTime Time.sameTime Clock.edgesBeforeOf Clock.zeroIn Clocks.availableOf Clocks.fedBy Clocks.hasZero Clocks.routedTicks Clocks.sourceOf Clocks.tapTicks Domain.domainTicks Counts.fits Tap.routeOf Tap.routeS Tap.routeW Tap.stageBelow Tap.stageOf Wait.edgeDeadline Wait.leftAt Wait.pausedBy System.domainDeadline Wait.startedBy System.systemAfter System.systemStartedAt Wait.waitDeadline Wait.waitPause Reading.continuedOf Writing.controlSet Writing.enterResetOf Writing.giveDataOf Reading.peekAt Writing.pullSdaOf Reading.readAt Reading.readDataOf Parts.redirectFrame Writing.redirected Reading.registerAt Reading.resumedOf Writing.sendOnOf Writing.stopReceiveOf Writing.takeControlOf Reading.takenOf Writing.writeAddressOf Writing.writeAt Writing.outOfResetOf Writing.writeControlOf Writing.writeDataOf Writing.writeEnableOf Writing.writeModeOf Writing.writeCommandOf Writing.writeStatusOf Iic.advanceOf Iic.inputPinsOf Iic.keepStretchedOf Iic.peekOf Iic.readOf Iic.setGateOf Iic.takePinsOf Iic.turnGateOf Iic.turnWaitsOf Iic.visitOf Iic.writeOf Clocking.fireClockOf Clocking.fireFilterOf Clocking.fireMonitorOf Clocking.fireSetupOf Kick.clockFrameOf Kick.kickOf Kick.launchOf Ready.nextFrameOf Shift.beginFrameOf Shift.loadTransmitOf Shift.setHoldOf State.defaultIic State.stopShifterOf Ends.dueOf Ends.halfEnd Waits.scheduleFilterOf Waits.turnClockOf Waits.turnFilterOf Waits.turnMonitorOf Waits.turnSetupOf Ends.waitEnd Hosts.after Hosts.anyDue Hosts.idle Hosts.outcomeOf Hosts.start Demand3.left Mirror.ordered
+unfolding Time.earlier Time.nextTime Time.sameTime Clock.edgesBeforeOf Clock.zeroIn Clocks.availableOf Clocks.fedBy Clocks.hasZero Clocks.routedTicks Clocks.sourceOf Clocks.tapTicks Domain.domainTicks Counts.fits Tap.routeOf Tap.routeS Tap.routeW Tap.stageBelow Tap.stageOf Wait.edgeDeadline Wait.leftAt Wait.pausedBy System.domainDeadline Wait.startedBy System.systemAfter System.systemStartedAt Wait.waitDeadline Wait.waitPause Reading.continuedOf Writing.controlSet Writing.enterResetOf Writing.giveDataOf Reading.peekAt Writing.pullSdaOf Reading.readAt Reading.readDataOf Parts.redirectFrame Writing.redirected Reading.registerAt Reading.resumedOf Writing.sendOnOf Writing.stopReceiveOf Writing.takeControlOf Reading.takenOf Writing.writeAddressOf Writing.writeAt Writing.outOfResetOf Writing.writeControlOf Writing.writeDataOf Writing.writeEnableOf Writing.writeModeOf Writing.writeCommandOf Writing.writeStatusOf Iic.advanceOf Iic.inputPinsOf Iic.keepStretchedOf Iic.peekOf Iic.readOf Iic.setGateOf Iic.takePinsOf Iic.turnGateOf Iic.turnWaitsOf Iic.visitOf Iic.writeOf Clocking.fireClockOf Clocking.fireFilterOf Clocking.fireMonitorOf Clocking.fireSetupOf Kick.clockFrameOf Kick.kickOf Kick.launchOf Ready.nextFrameOf Shift.beginFrameOf Shift.loadTransmitOf Shift.setHoldOf State.initial State.stopShifterOf Ends.dueOf Ends.halfEnd Waits.scheduleFilterOf Waits.turnClockOf Waits.turnFilterOf Waits.turnMonitorOf Waits.turnSetupOf Ends.waitEnd Hosts.after Hosts.anyDue Hosts.idle Hosts.outcomeOf Hosts.start Demand3.left Mirror.ordered Rates.ratesHold Rates.lengthsHold Rates.monitorBelow Rates.monitorHalves Rates.periodOf Rates.rate
 rows-hold = refl

@@ -28,14 +28,16 @@ use Rattle.iic.specs.Setters.{setGate, setRaw}
 use Rattle.iic.specs.State.{awake, enabled}
 use Rattle.time.specs.declared.Time.{Time}
 use Rattle.waits.specs.Ends.{halfEnd, sooner, tapRefusal, waitEnd}
+use Rattle.waits.specs.Rates.{ratesHold}
 use lib.Dec.{eqb}
 use mathlib.Core.Bool.{Bool, Bool·beq, _&&_, cond, false, not}
 
--- ## Refusals that stand before a call (document 01, their order): 1, where a clock that was handed in holds a zero, then 9, then 10, with the state
--- unchanged; 0 for none
+-- ## Refusals that stand before a call (document 01, their order): 1, where a clock that was handed in holds a zero, then 14 for the state's rate set
+-- (document 02, (f)), then 9, then 10, with the state unchanged; 0 for none
 
 abbrev pub guardBy : Bool → Iic → ℕ
-guardBy zero s = cond zero 1 (cond (not (rangesHold s)) 9 (cond (not (progressHolds s)) 10 0))
+guardBy zero s =
+    cond zero 1 (cond (not (ratesHold (s .rates))) 14 (cond (not (rangesHold s)) 9 (cond (not (progressHolds s)) 10 0)))
 
 -- ## Registers: `peek`, `read`, `write` (197, 215, 255)
 
@@ -129,7 +131,7 @@ advanceOf s now k = guarded (guardBy (hasZero k) s) s (visitOf now k s)
 abbrev pub interruptWithEnableOf : Iic → ℕ → Bool
 interruptWithEnableOf s retained = interruptWith s retained
 
--- ## `validate`: 9, 10, 11, 12, or 0 (894)
+-- ## `validate`: 14, 9, 10, 11, 12, or 0 (894; document 02, (f))
 
 -- the first of two refusals
 abbrev pub firstOf : ℕ → ℕ → ℕ
@@ -141,4 +143,5 @@ waitsRefusal s = firstOf (tapRefusal (s .«filter_wait»)) (firstOf (tapRefusal 
 
 unfoldable pub validateOf : Iic → Time → ℕ
 validateOf s now =
-    cond (not (rangesHold s && fellBy (s .«eighth_fall») now)) 9 (cond (not (progressHolds s)) 10 (waitsRefusal s))
+    cond (not (ratesHold (s .rates))) 14
+    (cond (not (rangesHold s && fellBy (s .«eighth_fall») now)) 9 (cond (not (progressHolds s)) 10 (waitsRefusal s)))

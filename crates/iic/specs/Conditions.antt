@@ -25,11 +25,15 @@ releaseSdaOf s = cond (s .flags .reset) s (driveSda true s)
 abbrev pub stopNoted : Iic → Iic
 stopNoted s = raise (flag (s .flags .selected || master s && s .flags .completed) STOP) s
 
+-- what was under way ends (512)
+abbrev pub atStop : Iic → Iic
+atStop s =
+    setBusy false (setCondition NoCondition (setFrame NoFrame (setSelected false (setReceiveEnabled false
+    (setReceiveStopped false (setHold NoHold (unclocked s)))))))
+
 -- a stop (511)
 unfoldable pub busStopOf : Iic → Iic
-busStopOf s =
-    releaseSdaOf (setBusy false (setCondition NoCondition (setFrame NoFrame (setSelected false (setReceiveEnabled false
-    (setReceiveStopped false (setHold NoHold (unclocked (stopNoted s)))))))))
+busStopOf s = releaseSdaOf (atStop (stopNoted s))
 
 -- the address frame, except in reset (535)
 unfoldable pub beginAddressOf : Iic → Iic

@@ -32,7 +32,7 @@ use mathlib.Core.Bool.{Bool, _&&_, _||_, cond, false, not, true}
 -- ICMR's WAIT lengthens a master's wait by two clocks, paused or not (753)
 abbrev pub longer : MaybeHalf → Iic → Stepped
 longer NoHalf s = fine s
-longer (Half w) s = clockFrom (madeHalf (w .paused) (fits (w .count + 4 * periodOf (s .registers .control)))) s
+longer (Half w) s = clockFrom (madeHalf (w .paused) (fits (w .count + 4 * periodOf (s .rates) (s .registers .control)))) s
 
 -- where ICMR's WAIT asks for it (752)
 unfoldable pub insertWaitOf : Iic → Stepped

@@ -10,7 +10,7 @@ use Rattle.iic.specs.Writing.{sendOnOf, writeAt, writeControlOf, writeDa
 use Rattle.iic.specs.Answers.{guarded}
 use Rattle.iic.specs.Calls.{guardBy, peekOf, pinsOf, readOf, writeOf}
 use Rattle.iic.specs.Kick.{kickOf}
-use Rattle.iic.specs.State.{defaultIic, stopShifterOf}
+use Rattle.iic.specs.State.{defaultIic, initial, stopShifterOf}
 use Rattle.iic.specs.declared.Iic.{Iic}
 use Rattle.iic.specs.declared.Pins.the-variants.{Driven, NoPins}
 use Rattle.iic.specs.declared.Pins.{Pins}
@@ -27,7 +27,7 @@ use Rattle.time.specs.declared.Count.{Count}
 use Rattle.time.specs.declared.Moment.the-variants as moment
 use Rattle.time.specs.declared.Moment.{Moment}
 use Rattle.time.specs.declared.Time.{Time}
-use Rattle.waits.specs.Rates.{periodOf, rate}
+use Rattle.waits.specs.Rates.{defaultRates, lengthsHold, monitorBelow, monitorHalves, periodOf, rate, ratesHold}
 use lib.Dec.{lit<}
 use mathlib.Core.Bool.{Bool, false, true}
 use mathlib.Core.List.{List, [], _∷_, map}
@@ -90,7 +90,7 @@ rowsOf wrote saw =
     ∷ row (peekOf (wrote 2 0x07 defaultIic) 2) 0x3f
     ∷ row (peekOf (wrote 6 0x01 (wrote 2 0x80 defaultIic)) 6) 0x80
     -- half clock: 0 gives 28, 7 128, 8 56, f 256
-    ∷ row (periodOf 0x0) 28 ∷ row (periodOf 0x7) 128 ∷ row (periodOf 0x8) 56 ∷ row (periodOf 0xf) 256
+    ∷ row (periodOf defaultRates 0x0) 28 ∷ row (periodOf defaultRates 0x7) 128 ∷ row (periodOf defaultRates 0x8) 56 ∷ row (periodOf defaultRates 0xf) 256
     -- frequency 3, start 0: edge 1 at fraction 5555555555555555, edge 3 at 1 s
     ∷ row (units (afterOf third 1)) 0x5555555555555555 ∷ row (units (afterOf third 3)) (2 ^ 64)
     -- a running domain's count at 5555555555555554 is 0, one later 1
@@ -115,7 +115,7 @@ module _ (now : Time) (k : Clocks) where
 
   -- every row shows what document 01 has, over any clock set without a zero, at any time
   pub rows-hold : hasZero k ≡ false → AllHold rows
-  unfolding rowsOf beginFrameOf loadTransmitOf registerAt peekAt readAt writeAt controlSet redirected takeControlOf writeControlOf writeModeOf writeEnableOf writeStatusOf giveDataOf sendOnOf writeDataOf peekOf readOf writeOf kickOf mirrorOf ordered risingOf risingDataOf whenLostOf lastBitOf addressedOf matchedOf selectOf defaultIic stopShifterOf rate periodOf afterOf edgeOf momentOf zeroIn domainTicks nextTime edgesBeforeOf
+  unfolding rowsOf beginFrameOf loadTransmitOf registerAt peekAt readAt writeAt controlSet redirected takeControlOf writeControlOf writeModeOf writeEnableOf writeStatusOf giveDataOf sendOnOf writeDataOf peekOf readOf writeOf kickOf mirrorOf ordered risingOf risingDataOf whenLostOf lastBitOf addressedOf matchedOf selectOf initial stopShifterOf rate periodOf ratesHold lengthsHold monitorBelow monitorHalves afterOf edgeOf momentOf zeroIn domainTicks nextTime edgesBeforeOf
   rows-hold free =
       subst (λ (z : Bool). AllHold (rowsBy z)) (sym free)
       (rw (edges-before-is third 0x5555555555555555 (lit< tt) (lit< tt), edges-before-is third 0x5555555555555556 (lit< tt) (lit< tt)) refl)

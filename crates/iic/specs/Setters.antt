@@ -1,4 +1,5 @@
--- Definitions: the state with one part set anew, one setter for each field that it has of the Rust's (iic.rs 96) and for each group of them.
+-- Definitions: the state with one part set anew, one setter for each field that it has of the Rust's (iic.rs 96) and for each group of them. None
+-- sets the rate set.
 use Prim.Native.Nat.{ℕ}
 use mathlib.Core.Bool.{Bool}
 use Rattle.bus.specs.declared.Levels.{Levels}
@@ -15,40 +16,40 @@ use Rattle.waits.specs.declared.MaybeHalf.{MaybeHalf}
 use Rattle.waits.specs.declared.MaybeWait.{MaybeWait}
 
 abbrev pub setRegisters : Registers → Iic → Iic
-setRegisters x s = record { registers = x; lines = s .lines; flags = s .flags; frame = s .frame; condition = s .condition; command = s .command; hold = s .hold; «eighth_fall» = s .«eighth_fall»; «clock_wait» = s .«clock_wait»; «monitor_wait» = s .«monitor_wait»; «filter_wait» = s .«filter_wait»; «setup_wait» = s .«setup_wait» }
+setRegisters x s = record { registers = x; lines = s .lines; flags = s .flags; frame = s .frame; condition = s .condition; command = s .command; hold = s .hold; «eighth_fall» = s .«eighth_fall»; «clock_wait» = s .«clock_wait»; «monitor_wait» = s .«monitor_wait»; «filter_wait» = s .«filter_wait»; «setup_wait» = s .«setup_wait»; rates = s .rates }
 
 abbrev pub setLines : Lines → Iic → Iic
-setLines x s = record { registers = s .registers; lines = x; flags = s .flags; frame = s .frame; condition = s .condition; command = s .command; hold = s .hold; «eighth_fall» = s .«eighth_fall»; «clock_wait» = s .«clock_wait»; «monitor_wait» = s .«monitor_wait»; «filter_wait» = s .«filter_wait»; «setup_wait» = s .«setup_wait» }
+setLines x s = record { registers = s .registers; lines = x; flags = s .flags; frame = s .frame; condition = s .condition; command = s .command; hold = s .hold; «eighth_fall» = s .«eighth_fall»; «clock_wait» = s .«clock_wait»; «monitor_wait» = s .«monitor_wait»; «filter_wait» = s .«filter_wait»; «setup_wait» = s .«setup_wait»; rates = s .rates }
 
 abbrev pub setFlags : Flags → Iic → Iic
-setFlags x s = record { registers = s .registers; lines = s .lines; flags = x; frame = s .frame; condition = s .condition; command = s .command; hold = s .hold; «eighth_fall» = s .«eighth_fall»; «clock_wait» = s .«clock_wait»; «monitor_wait» = s .«monitor_wait»; «filter_wait» = s .«filter_wait»; «setup_wait» = s .«setup_wait» }
+setFlags x s = record { registers = s .registers; lines = s .lines; flags = x; frame = s .frame; condition = s .condition; command = s .command; hold = s .hold; «eighth_fall» = s .«eighth_fall»; «clock_wait» = s .«clock_wait»; «monitor_wait» = s .«monitor_wait»; «filter_wait» = s .«filter_wait»; «setup_wait» = s .«setup_wait»; rates = s .rates }
 
 abbrev pub setFrame : Framing → Iic → Iic
-setFrame x s = record { registers = s .registers; lines = s .lines; flags = s .flags; frame = x; condition = s .condition; command = s .command; hold = s .hold; «eighth_fall» = s .«eighth_fall»; «clock_wait» = s .«clock_wait»; «monitor_wait» = s .«monitor_wait»; «filter_wait» = s .«filter_wait»; «setup_wait» = s .«setup_wait» }
+setFrame x s = record { registers = s .registers; lines = s .lines; flags = s .flags; frame = x; condition = s .condition; command = s .command; hold = s .hold; «eighth_fall» = s .«eighth_fall»; «clock_wait» = s .«clock_wait»; «monitor_wait» = s .«monitor_wait»; «filter_wait» = s .«filter_wait»; «setup_wait» = s .«setup_wait»; rates = s .rates }
 
 abbrev pub setCondition : Condition → Iic → Iic
-setCondition x s = record { registers = s .registers; lines = s .lines; flags = s .flags; frame = s .frame; condition = x; command = s .command; hold = s .hold; «eighth_fall» = s .«eighth_fall»; «clock_wait» = s .«clock_wait»; «monitor_wait» = s .«monitor_wait»; «filter_wait» = s .«filter_wait»; «setup_wait» = s .«setup_wait» }
+setCondition x s = record { registers = s .registers; lines = s .lines; flags = s .flags; frame = s .frame; condition = x; command = s .command; hold = s .hold; «eighth_fall» = s .«eighth_fall»; «clock_wait» = s .«clock_wait»; «monitor_wait» = s .«monitor_wait»; «filter_wait» = s .«filter_wait»; «setup_wait» = s .«setup_wait»; rates = s .rates }
 
 abbrev pub setCommand : Command → Iic → Iic
-setCommand x s = record { registers = s .registers; lines = s .lines; flags = s .flags; frame = s .frame; condition = s .condition; command = x; hold = s .hold; «eighth_fall» = s .«eighth_fall»; «clock_wait» = s .«clock_wait»; «monitor_wait» = s .«monitor_wait»; «filter_wait» = s .«filter_wait»; «setup_wait» = s .«setup_wait» }
+setCommand x s = record { registers = s .registers; lines = s .lines; flags = s .flags; frame = s .frame; condition = s .condition; command = x; hold = s .hold; «eighth_fall» = s .«eighth_fall»; «clock_wait» = s .«clock_wait»; «monitor_wait» = s .«monitor_wait»; «filter_wait» = s .«filter_wait»; «setup_wait» = s .«setup_wait»; rates = s .rates }
 
 abbrev pub setHold : Hold → Iic → Iic
-setHold x s = record { registers = s .registers; lines = s .lines; flags = s .flags; frame = s .frame; condition = s .condition; command = s .command; hold = x; «eighth_fall» = s .«eighth_fall»; «clock_wait» = s .«clock_wait»; «monitor_wait» = s .«monitor_wait»; «filter_wait» = s .«filter_wait»; «setup_wait» = s .«setup_wait» }
+setHold x s = record { registers = s .registers; lines = s .lines; flags = s .flags; frame = s .frame; condition = s .condition; command = s .command; hold = x; «eighth_fall» = s .«eighth_fall»; «clock_wait» = s .«clock_wait»; «monitor_wait» = s .«monitor_wait»; «filter_wait» = s .«filter_wait»; «setup_wait» = s .«setup_wait»; rates = s .rates }
 
 abbrev pub setEighthFall : EighthFall → Iic → Iic
-setEighthFall x s = record { registers = s .registers; lines = s .lines; flags = s .flags; frame = s .frame; condition = s .condition; command = s .command; hold = s .hold; «eighth_fall» = x; «clock_wait» = s .«clock_wait»; «monitor_wait» = s .«monitor_wait»; «filter_wait» = s .«filter_wait»; «setup_wait» = s .«setup_wait» }
+setEighthFall x s = record { registers = s .registers; lines = s .lines; flags = s .flags; frame = s .frame; condition = s .condition; command = s .command; hold = s .hold; «eighth_fall» = x; «clock_wait» = s .«clock_wait»; «monitor_wait» = s .«monitor_wait»; «filter_wait» = s .«filter_wait»; «setup_wait» = s .«setup_wait»; rates = s .rates }
 
 abbrev pub setClockWait : MaybeHalf → Iic → Iic
-setClockWait x s = record { registers = s .registers; lines = s .lines; flags = s .flags; frame = s .frame; condition = s .condition; command = s .command; hold = s .hold; «eighth_fall» = s .«eighth_fall»; «clock_wait» = x; «monitor_wait» = s .«monitor_wait»; «filter_wait» = s .«filter_wait»; «setup_wait» = s .«setup_wait» }
+setClockWait x s = record { registers = s .registers; lines = s .lines; flags = s .flags; frame = s .frame; condition = s .condition; command = s .command; hold = s .hold; «eighth_fall» = s .«eighth_fall»; «clock_wait» = x; «monitor_wait» = s .«monitor_wait»; «filter_wait» = s .«filter_wait»; «setup_wait» = s .«setup_wait»; rates = s .rates }
 
 abbrev pub setMonitorWait : MaybeHalf → Iic → Iic
-setMonitorWait x s = record { registers = s .registers; lines = s .lines; flags = s .flags; frame = s .frame; condition = s .condition; command = s .command; hold = s .hold; «eighth_fall» = s .«eighth_fall»; «clock_wait» = s .«clock_wait»; «monitor_wait» = x; «filter_wait» = s .«filter_wait»; «setup_wait» = s .«setup_wait» }
+setMonitorWait x s = record { registers = s .registers; lines = s .lines; flags = s .flags; frame = s .frame; condition = s .condition; command = s .command; hold = s .hold; «eighth_fall» = s .«eighth_fall»; «clock_wait» = s .«clock_wait»; «monitor_wait» = x; «filter_wait» = s .«filter_wait»; «setup_wait» = s .«setup_wait»; rates = s .rates }
 
 abbrev pub setFilterWait : MaybeWait → Iic → Iic
-setFilterWait x s = record { registers = s .registers; lines = s .lines; flags = s .flags; frame = s .frame; condition = s .condition; command = s .command; hold = s .hold; «eighth_fall» = s .«eighth_fall»; «clock_wait» = s .«clock_wait»; «monitor_wait» = s .«monitor_wait»; «filter_wait» = x; «setup_wait» = s .«setup_wait» }
+setFilterWait x s = record { registers = s .registers; lines = s .lines; flags = s .flags; frame = s .frame; condition = s .condition; command = s .command; hold = s .hold; «eighth_fall» = s .«eighth_fall»; «clock_wait» = s .«clock_wait»; «monitor_wait» = s .«monitor_wait»; «filter_wait» = x; «setup_wait» = s .«setup_wait»; rates = s .rates }
 
 abbrev pub setSetupWait : MaybeWait → Iic → Iic
-setSetupWait x s = record { registers = s .registers; lines = s .lines; flags = s .flags; frame = s .frame; condition = s .condition; command = s .command; hold = s .hold; «eighth_fall» = s .«eighth_fall»; «clock_wait» = s .«clock_wait»; «monitor_wait» = s .«monitor_wait»; «filter_wait» = s .«filter_wait»; «setup_wait» = x }
+setSetupWait x s = record { registers = s .registers; lines = s .lines; flags = s .flags; frame = s .frame; condition = s .condition; command = s .command; hold = s .hold; «eighth_fall» = s .«eighth_fall»; «clock_wait» = s .«clock_wait»; «monitor_wait» = s .«monitor_wait»; «filter_wait» = s .«filter_wait»; «setup_wait» = x; rates = s .rates }
 
 -- the parts of `registers`
 

@@ -13,16 +13,19 @@ use Rattle.iic.specs.declared.Condition.{Condition}
 use Rattle.iic.specs.declared.Condition.the-variants.{NoCondition, StartHigh, StartHold, StartRelease, StopDetect, StopHigh, StopLow, StopRelease}
 use Rattle.iic.specs.declared.Iic.{Iic}
 use Rattle.iic.specs.declared.Flags.{Flags}
+use Rattle.iic.specs.declared.Given.{Given}
 use Rattle.iic.specs.declared.Registers.{Registers}
 use Rattle.iic.specs.declared.EighthFall.the-variants.{NoFall}
 use Rattle.iic.specs.declared.Hold.{Hold}
 use Rattle.iic.specs.declared.Hold.the-variants.{NoHold, Receive, Transmit}
 use Rattle.waits.specs.declared.MaybeHalf.the-variants.{NoHalf}
 use Rattle.waits.specs.declared.MaybeWait.the-variants.{NoWait}
+use Rattle.waits.specs.declared.rates.Rates.{Rates}
+use Rattle.waits.specs.Rates.{defaultRates, ratesHold}
 use lib.Bits.{bitOr}
-use mathlib.Core.Bool.{Bool, _&&_, false, true}
+use mathlib.Core.Bool.{Bool, _&&_, cond, false, true}
 
--- ## `Default` (131)
+-- ## `Default` (131), and document 02 (f): with a rate set
 
 abbrev pub defaultRegisters : Registers
 defaultRegisters = record { control = 0; mode = 0; count = 0; enable = 0; status = 0; seen = 0; address = 0; tdr = 0xff; rdr = 0xff }
@@ -40,8 +43,8 @@ defaultFlags = record {
   «stale_release» = false;
 }
 
-unfoldable pub defaultIic : Iic
-defaultIic = record {
+unfoldable pub initial : Rates → Iic
+initial rates = record {
   registers = defaultRegisters;
   lines = record { drive = levels true true; raw = levels true true; latch = levels true true; filtered = levels true true };
   flags = defaultFlags;
@@ -54,7 +57,16 @@ defaultIic = record {
   «monitor_wait» = NoHalf;
   «filter_wait» = NoWait;
   «setup_wait» = NoWait;
+  rates = rates;
 }
+
+-- over the numbers of document 01
+abbrev pub defaultIic : Iic
+defaultIic = initial defaultRates
+
+-- a set that is refused is in the state all the same, over which the calls are refused too
+abbrev pub withRatesOf : Rates → Given
+withRatesOf rates = record { refusal = cond (ratesHold rates) 0 14; state = initial rates }
 
 -- ## Tests on the registers: `enabled`, `master`, `transmit`, `synchronous` (168 to 179)
 

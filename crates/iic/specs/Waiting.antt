@@ -48,15 +48,15 @@ setupFrom w s = waitFrom setSetupWait w s
 
 -- half a clock from now on (552, 555, 775, 808, 850, 864, 879)
 unfoldable pub startClockOf : Time → Domain → Iic → Stepped
-startClockOf now system s = clockFrom (halfAfter now (periodOf (s .registers .control)) system) s
+startClockOf now system s = clockFrom (halfAfter now (periodOf (s .rates) (s .registers .control)) system) s
 
 -- until a rising clock is looked at (881)
 unfoldable pub startMonitorOf : Time → Domain → Iic → Stepped
-startMonitorOf now system s = monitorFrom (halfAfter now (monitorHalves (s .registers .control)) system) s
+startMonitorOf now system s = monitorFrom (halfAfter now (monitorHalves (s .rates) (s .registers .control)) system) s
 
 -- before a slave releases SCL (777)
 unfoldable pub startSetupOf : Time → Domain → Iic → Stepped
-startSetupOf now system s = setupFrom (systemAfter now (setupCycles (s .registers .control)) system) s
+startSetupOf now system s = setupFrom (systemAfter now (setupCycles (s .rates) (s .registers .control)) system) s
 
 -- `schedule_filter`: enabled, gate on, no such wait yet, and a level still on its way through the filter (416)
 abbrev pub wantsFilter : Iic → Bool

@@ -31,12 +31,16 @@ fn first_of(a: u8, b: u8) -> u8
 }
 
 impl Iic {
-    // 1 where a clock of the set holds a zero, then 9 and 10, stand before a call; 0 for none.
+    // 1 where a clock of the set holds a zero, then 14 for the rate set, then 9 and 10, stand before a call; 0 for none.
     pub(crate) fn guard(self, zero: bool) -> u8
         ensures { λ r. ⌜ r ≡ guardBy zero self ⌝ }
     {
         if zero {
             return 1;
+        }
+        let rates = self.rates;
+        if !rates.hold() {
+            return 14;
         }
         if !self.ranges_hold() {
             return 9;
@@ -175,6 +179,10 @@ impl Iic {
     pub fn validate(self, now: Time) -> u8
         ensures { λ r. ⌜ r ≡ validateOf self now ⌝ }
     {
+        let rates = self.rates;
+        if !rates.hold() {
+            return 14;
+        }
         let eighth_fall = self.eighth_fall;
         let sound = self.ranges_hold() & eighth_fall.fell_by(now);
         if !sound {

@@ -21,7 +21,6 @@ use waits::HalfWait;
 use waits::MaybeHalf;
 use waits::MaybeWait;
 use waits::ends::due;
-use waits::rates::monitor_halves;
 
 impl Iic {
     fn toggle(mut self, now: Time, system: Domain) -> Stepped
@@ -156,7 +155,9 @@ impl Stepped {
     {
         if self.went_on() {
             if self.state.lines.drive.scl {
-                let halves = monitor_halves(self.state.registers.control) as u64;
+                let state = self.state;
+                let rates = state.rates;
+                let halves = rates.monitor_halves(self.state.registers.control) as u64;
                 self = self.state
                     .monitor_from(HalfWait::after(now, halves, system));
             } else {

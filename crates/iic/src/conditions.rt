@@ -1,6 +1,6 @@
 // Starts and stops: those of the bus, and those that the master makes.
 ghost use mathlib.Core.Path.{_≡_};
-ghost use Rattle.iic.specs.Conditions.{begunOf, busEdgeOf, busStartOf, busStopOf, clockedOf, conditionHigh, firstCondition, isStartHold, raisedOf};
+ghost use Rattle.iic.specs.Conditions.{atStop, begunOf, busEdgeOf, busStartOf, busStopOf, clockedOf, conditionHigh, firstCondition, isStartHold, raisedOf, releaseSdaOf};
 use super::Command;
 use super::Condition;
 use super::Hold;
@@ -51,29 +51,41 @@ impl Iic {
         }
     }
 
-    fn bus_stop(mut self) -> Iic
-        ensures { λ r. ⌜ r ≡ busStopOf self ⌝ }
+    // What was under way ends at a stop.
+    fn at_stop(mut self) -> Iic
+        ensures { λ r. ⌜ r ≡ atStop self ⌝ }
     {
-        let meant = self.flags.selected
-            | ((self.registers.control & MST != 0) & self.flags.completed);
-        self = self.raise(bus::flag(meant, STOP));
         self.flags.busy = false;
         self.flags.selected = false;
         self.flags.receive_enabled = false;
         self.flags.receive_stopped = false;
-        self = Iic {
+        Iic {
             frame: Framing::NoFrame,
             condition: Condition::NoCondition,
             hold: Hold::NoHold,
             clock_wait: MaybeHalf::NoHalf,
             monitor_wait: MaybeHalf::NoHalf,
             ..self
-        };
+        }
+    }
+
+    // SDA is released, except in reset.
+    fn release_sda(mut self) -> Iic
+        ensures { λ r. ⌜ r ≡ releaseSdaOf self ⌝ }
+    {
         if self.flags.reset {
             return self;
         }
         self.lines.drive.sda = true;
         self
+    }
+
+    fn bus_stop(self) -> Iic
+        ensures { λ r. ⌜ r ≡ busStopOf self ⌝ }
+    {
+        let meant = self.flags.selected
+            | ((self.registers.control & MST != 0) & self.flags.completed);
+        self.raise(bus::flag(meant, STOP)).at_stop().release_sda()
     }
 
     fn bus_start(mut self) -> Iic

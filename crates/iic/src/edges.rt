@@ -13,7 +13,6 @@ use frames::Phase;
 use time::Time;
 use waits::MaybeHalf;
 use waits::half::made_half;
-use waits::rates::period;
 
 impl Iic {
     // ICMR's WAIT lengthens a master's wait by two clocks.
@@ -24,7 +23,8 @@ impl Iic {
         let MaybeHalf::Half(w) = clock_wait else {
             return self.fine();
         };
-        let extra = 4 * (period(self.registers.control) as u64);
+        let rates = self.rates;
+        let extra = 4 * (rates.period(self.registers.control) as u64);
         self.clock_from(made_half(w.paused, checked_add(w.count, extra)))
     }
 

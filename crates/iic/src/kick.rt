@@ -15,7 +15,6 @@ use clocks::domain::Domain;
 use clocks::wait::ClockWait;
 use frames::Framing;
 use time::Time;
-use waits::rates::setup_cycles;
 
 impl Iic {
     fn begin_condition(mut self, now: Time, system: Domain) -> Stepped
@@ -68,7 +67,8 @@ impl Iic {
     fn start_setup(self, now: Time, system: Domain) -> Stepped
         ensures { λ r. ⌜ r ≡ startSetupOf now system self ⌝ }
     {
-        let cycles = setup_cycles(self.registers.control) as u64;
+        let rates = self.rates;
+        let cycles = rates.setup_cycles(self.registers.control) as u64;
         self.setup_from(ClockWait::system_after(now, cycles, system))
     }
 

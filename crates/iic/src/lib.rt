@@ -24,6 +24,7 @@ use frames::Framing;
 use time::Time;
 use waits::MaybeHalf;
 use waits::MaybeWait;
+use waits::rates::Rates;
 
 // A start or a stop that the master is about.
 pub enum Condition {
@@ -87,7 +88,7 @@ pub struct Flags {
     pub stale_release: bool,
 }
 
-// The peripheral.
+// The peripheral. The rate set is given when it is made.
 pub struct Iic {
     pub registers: Registers,
     pub lines: Lines,
@@ -101,6 +102,13 @@ pub struct Iic {
     pub monitor_wait: MaybeHalf,
     pub filter_wait: MaybeWait,
     pub setup_wait: MaybeWait,
+    pub rates: Rates,
+}
+
+// The number of the refusal of a rate set, 0 for none, and the state that has the set.
+pub struct Given {
+    pub refusal: u8,
+    pub state: Iic,
 }
 
 // The registers, by the manual's names.

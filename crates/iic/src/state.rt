@@ -1,11 +1,12 @@
 // The default state, its parts set anew, and the tests on it.
 ghost use mathlib.Core.Path.{_≡_};
 ghost use Rattle.iic.specs.Setters.{setClockWait, setCommand, setCondition, setEighthFall, setFrame, setHold, setFilterWait, setMonitorWait, setSetupWait};
-ghost use Rattle.iic.specs.State.{awake, commanded, conditioned, defaultIic, defaultFlags, defaultRegisters, enabled, framed, held, isTransmitHold, master, raise, stopShifterOf, synchronous, transmits, unclocked};
+ghost use Rattle.iic.specs.State.{awake, commanded, conditioned, defaultIic, defaultFlags, defaultRegisters, enabled, framed, held, initial, isTransmitHold, master, raise, stopShifterOf, synchronous, transmits, unclocked, withRatesOf};
 use super::Command;
 use super::Condition;
 use super::EighthFall;
 use super::Flags;
+use super::Given;
 use super::Hold;
 use super::Iic;
 use super::Lines;
@@ -18,6 +19,7 @@ use bus::Levels;
 use frames::Framing;
 use waits::MaybeHalf;
 use waits::MaybeWait;
+use waits::rates::Rates;
 
 impl Registers {
     fn new() -> Registers
@@ -60,6 +62,24 @@ impl Iic {
     pub fn new() -> Iic
         ensures { λ r. ⌜ r ≡ defaultIic ⌝ }
     {
+        Iic::initial(Rates::default())
+    }
+
+    // The same with another rate set, and whether that is refused.
+    pub fn with_rates(rates: Rates) -> Given
+        ensures { λ r. ⌜ r ≡ withRatesOf rates ⌝ }
+    {
+        let state = Iic::initial(rates);
+        if rates.hold() {
+            Given { refusal: 0, state }
+        } else {
+            Given { refusal: 14, state }
+        }
+    }
+
+    fn initial(rates: Rates) -> Iic
+        ensures { λ r. ⌜ r ≡ initial rates ⌝ }
+    {
         let high = Levels {
             scl: true,
             sda: true,
@@ -82,6 +102,7 @@ impl Iic {
             monitor_wait: MaybeHalf::NoHalf,
             filter_wait: MaybeWait::NoWait,
             setup_wait: MaybeWait::NoWait,
+            rates,
         }
     }
 

@@ -17,7 +17,6 @@ use waits::MaybeWait;
 use waits::NewHalf;
 use waits::ends::turn_half;
 use waits::ends::turn_wait;
-use waits::rates::period;
 
 impl Iic {
     pub(crate) fn clock_from(mut self, made: NewHalf) -> Stepped
@@ -78,7 +77,8 @@ impl Iic {
     pub(crate) fn start_clock(self, now: Time, system: Domain) -> Stepped
         ensures { λ r. ⌜ r ≡ startClockOf now system self ⌝ }
     {
-        let halves = period(self.registers.control) as u64;
+        let rates = self.rates;
+        let halves = rates.period(self.registers.control) as u64;
         self.clock_from(HalfWait::after(now, halves, system))
     }
 

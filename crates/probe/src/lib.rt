@@ -43,17 +43,25 @@ pub extern "C" fn probe_turn(
 
 // The peripheral's state before the first call.
 #[no_mangle]
-pub extern "C" fn probe_iic_fresh(state: &mut [u64; 61])
+pub extern "C" fn probe_iic_fresh(state: &mut [u64; 75])
     ensures { λ _. ⌜ Begins (registerWords (defaultIic .registers)) (now (state .exit)) ⌝ }
 {
     calls::peripheral::fresh(state)
+}
+
+// The same with the rate set that the state's words hold, and 14 where it is refused.
+#[no_mangle]
+pub extern "C" fn probe_iic_with_rates(state: &mut [u64; 75]) -> u64
+    ensures { λ r. ⌜ Begins (registerWords (defaultIic .registers)) (now (state .exit)) ⌝ }
+{
+    calls::peripheral::with_rates(state)
 }
 
 // A call of the peripheral that can change its state.
 #[no_mangle]
 pub extern "C" fn probe_iic_act(
     number: u64,
-    state: &mut [u64; 61],
+    state: &mut [u64; 75],
     set: &[u64; 69],
     args: &[u64; 24],
     out: &mut [u64; 70],
@@ -64,7 +72,7 @@ pub extern "C" fn probe_iic_act(
 }
 
 #[no_mangle]
-pub extern "C" fn probe_iic_deadline(state: &[u64; 61], set: &[u64; 69], out: &mut [u64; 70]) -> u64
+pub extern "C" fn probe_iic_deadline(state: &[u64; 75], set: &[u64; 69], out: &mut [u64; 70]) -> u64
     ensures { λ r. ⌜ Told 8 r (now (out .entry)) (now (out .exit)) ⌝ }
 {
     calls::peripheral::deadline(state, set, out)
@@ -72,7 +80,7 @@ pub extern "C" fn probe_iic_deadline(state: &[u64; 61], set: &[u64; 69], out: &m
 
 #[no_mangle]
 pub extern "C" fn probe_iic_validate(
-    state: &[u64; 61],
+    state: &[u64; 75],
     args: &[u64; 24],
     out: &mut [u64; 70],
 ) -> u64
@@ -83,7 +91,7 @@ pub extern "C" fn probe_iic_validate(
 
 // What else can be asked of the peripheral.
 #[no_mangle]
-pub extern "C" fn probe_iic_observe(state: &[u64; 61], args: &[u64; 24], out: &mut [u64; 70]) -> u64
+pub extern "C" fn probe_iic_observe(state: &[u64; 75], args: &[u64; 24], out: &mut [u64; 70]) -> u64
     ensures { λ r. ⌜ (r ≡ 0) × Told 14 r (now (out .entry)) (now (out .exit)) ⌝ }
 {
     calls::peripheral::observe(state, args, out)

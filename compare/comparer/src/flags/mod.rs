@@ -1,5 +1,5 @@
-//! Request (j) of document 02, on the unmodified Rust: what a status write can do to the flags, over any calls from the
-//! default, refused ones included; and no such calls lead to a state that draws 9 or 10.
+//! Request (j) of document 02, on the Rust: what a status write can do to the flags, over any calls from the default, with
+//! its rate set or another, refused ones included; and no such calls lead to a state that draws 9 or 10.
 mod claim;
 mod met;
 #[cfg(test)]
@@ -11,12 +11,11 @@ use crate::peripheral;
 use crate::shrink::SHOWN;
 use claim::{Claim, Reads, StatusWrite};
 use met::Met;
-use reference::mcu::iic::Iic;
 use std::time::Instant;
 use traffic::host::{Host, LULL};
 use traffic::random::Random;
 use words::calls::{End, Reference};
-use words::iic::{self, Call};
+use words::iic::{self, Call, Peripheral};
 use words::layout::{self, Args};
 
 /// Address bits 0 to 2 choose ICSR by 4.
@@ -59,7 +58,8 @@ fn run(random: &mut Random, claim: Claim, met: &mut Met) -> Result<(), String> {
     let (words, now) = peripheral::new_set(random);
     let clocks = reference::Bridge::set(&words).ok_or("a clock with a zero")?;
     let mut host = Host::new(random, now, peripheral::system(&words));
-    let mut run = Run { claim, clocks, side: Side::new(Iic::default()), reads: Reads::default(), met };
+    let side = Side::new(reference::Bridge::fresh(&peripheral::rates::of_run(met.runs)));
+    let mut run = Run { claim, clocks, side, reads: Reads::default(), met };
     run.met.runs += 1;
     let most = random.pick(&[40, 400]);
     let mut lull = 0;

@@ -1,6 +1,7 @@
-//! Demand 3 of document 01, on the unmodified Rust: two hosts whose lists of calls are alike once the idle ones are
-//! struck out see the same answers and states, as long as none of the calls left was refused.
-mod idle;
+//! Demand 3 of document 01, on the Rust: two hosts whose lists of calls are alike once the idle ones are struck out see
+//! the same answers and states, as long as none of the calls left was refused. Both have the same rate set, be it another
+//! than the default (document 02, (f)).
+pub mod idle;
 pub mod side;
 #[cfg(test)]
 mod tests;
@@ -8,13 +9,12 @@ use crate::options::Options;
 use crate::peripheral;
 use crate::shrink::SHOWN;
 use idle::Idea;
-use reference::mcu::iic::Iic;
 use side::Side;
 use std::time::Instant;
 use traffic::host::{Host, LULL};
 use traffic::random::Random;
 use words::calls::{End, Reference};
-use words::iic::{self, Call};
+use words::iic::{self, Call, Peripheral};
 use words::layout::{self, Args};
 
 pub type Clocks = <reference::Bridge as Reference>::Set;
@@ -74,7 +74,8 @@ fn pair(random: &mut Random, idea: Idea, tally: &mut Tally) -> Result<(), String
     let (words, now) = peripheral::new_set(random);
     let clocks = reference::Bridge::set(&words).ok_or("a clock with a zero")?;
     let mut host = Host::new(random, now, peripheral::system(&words));
-    let sides = [Side::new(Iic::default()), Side::new(Iic::default())];
+    let rates = peripheral::rates::of_run(tally.pairs);
+    let sides = [(); 2].map(|()| Side::new(reference::Bridge::fresh(&rates)));
     let mut pair = Pair { idea, clocks, sides, tally };
     pair.tally.pairs += 1;
     let most = random.pick(&[40, 400]);

@@ -1,9 +1,10 @@
 //! One host's peripheral.
 use super::Clocks;
-use reference::mcu::iic::Iic;
+use reference::Rated;
 use words::calls::{Answer, End};
 use words::iic::{self, Call, Peripheral, State, NACKF, TDRE};
 use words::layout::{self, Args};
+use words::rates::Rates;
 
 /// Where the waits lie in the state.
 pub const WAITS: [usize; 4] = [iic::FILTER_WAIT, iic::SETUP_WAIT, iic::MONITOR_WAIT, iic::CLOCK_WAIT];
@@ -11,7 +12,7 @@ pub const WAITS: [usize; 4] = [iic::FILTER_WAIT, iic::SETUP_WAIT, iic::MONITOR_W
 const DONE: u64 = 2;
 
 pub struct Side {
-    pub iic: Iic,
+    pub iic: Rated,
     pub words: State,
     /// Whether a write has lifted the reset, and no visit has come since.
     pub lifted: bool,
@@ -20,8 +21,9 @@ pub struct Side {
 }
 
 impl Side {
-    pub fn new(iic: Iic) -> Self {
-        let mut side = Self { iic, words: [0; iic::STATE], lifted: false, answer: Answer::empty(), fresh: Vec::new() };
+    pub fn new(iic: Rated) -> Self {
+        let words = iic::blank(&Rates::DEFAULT);
+        let mut side = Self { iic, words, lifted: false, answer: Answer::empty(), fresh: Vec::new() };
         side.look();
         side
     }

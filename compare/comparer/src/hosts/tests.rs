@@ -5,6 +5,7 @@ use crate::inputs::{plain_set, FREQUENCIES};
 use traffic::random::Random;
 use words::calls::Reference;
 use words::iic::{self, Peripheral, State};
+use words::rates::Rates;
 
 /// What pairs meet with an idea until they part, and how they do, if they do in so many calls.
 fn pairs(idea: Idea, calls: u64) -> (Tally, Option<String>) {
@@ -61,7 +62,7 @@ fn wrong_ideas_are_caught() {
 
 /// A state in which whatever a kick looks at is at random; most are enabled, and no wait but the clock's runs.
 fn kicked(random: &mut Random) -> State {
-    let mut state = [0; iic::STATE];
+    let mut state = iic::blank(&Rates::DEFAULT);
     state[iic::CONTROL] = random.word() & 0x7f | random.pick(&[0x80, 0x80, 0x80, 0]);
     state[iic::RESET] = u64::from(random.once_in(8));
     state[iic::GATE] = u64::from(!random.once_in(8));

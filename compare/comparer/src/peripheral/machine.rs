@@ -2,6 +2,7 @@
 //! them is compared.
 #[cfg(test)]
 mod tests;
+use super::rates;
 use crate::differences::peripheral::{self as rows, Handed, Origin};
 use crate::differences::{row_added, Like, Parting};
 use crate::inputs::{plain_set, FREQUENCIES};
@@ -9,6 +10,7 @@ use crate::judge;
 use words::calls::{Answer, End, Reference};
 use words::iic::{self, Call, Peripheral, State};
 use words::layout::{Args, Set};
+use words::rates::Rates;
 
 type Plain = reference::Bridge;
 type Checked = checked::Bridge;
@@ -87,11 +89,19 @@ impl Machine {
         machine
     }
 
-    /// One before its first call, with what the states part in.
-    pub fn fresh() -> Result<Self, Difference> {
-        let mut machine = Self::new(&port::iic::fresh(), Origin::Default);
-        machine.plain = Plain::fresh();
-        machine.checked = Checked::fresh();
+    /// One before its first call, with that rate set, and what the states part in.
+    pub fn fresh(of: &Rates) -> Result<Self, Difference> {
+        let (state, end) = match *of {
+            Rates::DEFAULT => (port::iic::fresh(), End::Done),
+            _ => port::iic::with_rates(of),
+        };
+        let expected = if rates::refused(of) { End::Refused(14) } else { End::Done };
+        if end != expected {
+            return differs(Call::Observe, format!("{expected:?} expected for {of:?}, port {end:?}"));
+        }
+        let mut machine = Self::new(&state, Origin::Default);
+        machine.plain = Plain::fresh(of);
+        machine.checked = Checked::fresh(of);
         machine.like_plain(Call::Observe)?;
         machine.like_checked(Call::Observe)?;
         Ok(machine)
@@ -204,7 +214,7 @@ impl Machine {
     }
 }
 
-fn differs(call: Call, what: String) -> Result<(), Difference> {
+fn differs<T>(call: Call, what: String) -> Result<T, Difference> {
     Err(Difference { call, what })
 }
 
@@ -218,8 +228,11 @@ fn same_state(call: Call, whose: &str, expected: &[u64], port: &State) -> Result
     }
 }
 
-/// 9 and 10, which the Rust has at `validate` alone.
+/// 14, which the Rust doesn't have; 9 and 10, which it has at `validate` alone.
 pub fn added(call: Call, state: &State) -> Option<u8> {
+    if (call.changes() || call == Call::Validate) && rates::refused(&iic::rates(state)) {
+        return Some(14);
+    }
     if !call.changes() {
         return None;
     }
@@ -233,7 +246,8 @@ pub fn added(call: Call, state: &State) -> Option<u8> {
 
 /// The field that a word belongs to.
 fn name(place: usize) -> &'static str {
-    const NAMES: [(usize, &str); 27] = [
+    const NAMES: [(usize, &str); 28] = [
+        (iic::RATES, "the rate set"),
         (iic::STALE_RELEASE, "stale_release"),
         (iic::EIGHTH_FALL, "eighth_fall"),
         (iic::RECEIVE_STOPPED, "receive_stopped"),

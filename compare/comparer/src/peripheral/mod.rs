@@ -1,6 +1,7 @@
 //! The peripheral: runs of calls from the default, and a few calls from states made at random.
 pub mod machine;
 mod rare;
+pub mod rates;
 mod runs;
 pub mod scenes;
 mod states;
@@ -15,9 +16,36 @@ use traffic::host::Host;
 use traffic::random::Random;
 use trial::Trial;
 use words::layout::{self, Set};
+use words::rates::Rates;
 
-/// Prints what was found, and returns how many differences there are.
+/// Which rate set a run has.
+type Draw = fn(&mut Random) -> Rates;
+
+/// Compares over the default rate set, which is the unmodified Rust's. Prints what was found, and returns how many
+/// differences there are.
 pub fn compare(options: &Options) -> u64 {
+    let (tally, seconds) = runs(|_| Rates::DEFAULT, options);
+    let missing = tally.rare.print(&tally, options);
+    tally.close("iic", options.seed, seconds);
+    tally.differences + missing
+}
+
+/// The same over other sets, with the copy of iic.rs that looks its rates up.
+pub fn compare_rates(options: &Options) -> u64 {
+    let (tally, seconds) = runs(rates::random, options);
+    let mut missing = tally.rare.print(&tally, options);
+    for what in tally.rates.print() {
+        if options.count >= rare::ENOUGH {
+            println!("difference: never came up: {what}");
+            missing += 1;
+        }
+    }
+    tally.close("rates", options.seed, seconds);
+    tally.differences + missing
+}
+
+/// Runs over sets that are drawn so, and the seconds that they took.
+fn runs(draw: Draw, options: &Options) -> (Tally, f64) {
     let mut random = Random::new(options.seed);
     let mut tally = Tally::default();
     let start = Instant::now();
@@ -25,25 +53,17 @@ pub fn compare(options: &Options) -> u64 {
         let most = random.pick(&[40, 400, 4000]);
         let length = 1 + random.below(most);
         if options.begins("default") {
-            from_default(&mut random, length, &mut tally);
-            from_scene(&mut random, &mut tally);
+            from_default(&mut random, draw, length, &mut tally);
+            from_scene(&mut random, draw, &mut tally);
         }
         for _ in 0..60 {
             if options.begins("made") {
-                from_made(&mut random, &mut tally);
+                from_made(&mut random, draw, &mut tally);
             }
         }
     }
-    let seconds = start.elapsed().as_secs_f64();
     tally.print();
-    let missing = tally.rare.print(&tally, options);
-    println!(
-        "iic: seed {}, {} calls, each with 13 questions after it, {seconds:.1} s, {:.2} million calls a second",
-        options.seed,
-        tally.calls(),
-        tally.calls() as f64 / seconds / 1e6
-    );
-    tally.differences + missing
+    (tally, start.elapsed().as_secs_f64())
 }
 
 /// A set as `Clocks::new` makes it, at any frequency and start, and a time at which a run begins.
@@ -82,21 +102,25 @@ pub fn system(set: &Set) -> exact::Clock {
     exact::clock(layout::domain(set, 0))
 }
 
-fn from_default(random: &mut Random, length: u64, tally: &mut Tally) {
+fn from_default(random: &mut Random, draw: Draw, length: u64, tally: &mut Tally) {
+    let rates = draw(random);
     let (set, now) = new_set(random);
     let host = Host::new(random, now, system(&set));
-    if let Some(mut trial) = Trial::fresh(set, tally) {
+    // Over a refused set nothing moves.
+    let length = if rates::refused(&rates) { length.min(20) } else { length };
+    if let Some(mut trial) = Trial::fresh(&rates, set, tally) {
         trial.play(random, host, length);
     }
 }
 
 /// A scene, and what a host makes of it.
-fn from_scene(random: &mut Random, tally: &mut Tally) {
+fn from_scene(random: &mut Random, draw: Draw, tally: &mut Tally) {
+    let rates = draw(random);
     let set = inputs::plain_set(inputs::start(random) >> random.below(128), inputs::FREQUENCIES);
     let clock = system(&set);
     let now = exact::edge(&clock, random.below(1000));
     let scene = random.pick(&scenes::ALL);
-    let Some(mut trial) = Trial::fresh(set, tally) else {
+    let Some(mut trial) = Trial::fresh(&rates, set, tally) else {
         return;
     };
     if let Some(now) = scenes::play(&mut trial, clock, now, scene) {
@@ -106,13 +130,14 @@ fn from_scene(random: &mut Random, tally: &mut Tally) {
     }
 }
 
-fn from_made(random: &mut Random, tally: &mut Tally) {
+fn from_made(random: &mut Random, draw: Draw, tally: &mut Tally) {
+    let rates = draw(random);
     let set = if random.once_in(2) { inputs::set(random) } else { new_set(random).0 };
     // On an edge of the system clock, as a rule, so that waits can end just then.
     let begin = begin(random, &set);
     let clock = system(&set);
     let now = if random.once_in(4) { begin } else { exact::edge(&clock, exact::count(&clock, begin)) };
-    let state = states::random(random, &set, now);
+    let state = states::random(random, &rates, &set, now);
     let host = Host::over_state(random, now, clock);
     let length = 1 + random.below(6);
     Trial::made(set, &state, now, tally).play(random, host, length);

@@ -8,7 +8,7 @@ use words::iic::{self, Call, State};
 use words::layout::{self, Args};
 
 /// Random calls from which on all of it must have come up.
-const ENOUGH: u64 = 1_000_000;
+pub const ENOUGH: u64 = 1_000_000;
 /// As many half counts below 2^64, or fewer, are near it: `validate` refuses them.
 const NEAR: u64 = 1023;
 

@@ -4,10 +4,11 @@ use traffic::exact;
 use traffic::random::Random;
 use words::iic::{self, State};
 use words::layout::{self, Set};
+use words::rates::Rates;
 
-/// A state in which waits end about `now`.
-pub fn random(random: &mut Random, set: &Set, now: u128) -> State {
-    let mut state = [0; iic::STATE];
+/// A state with that rate set in which waits end about `now`.
+pub fn random(random: &mut Random, rates: &Rates, set: &Set, now: u128) -> State {
+    let mut state = iic::blank(rates);
     let unsound = random.once_in(6);
     put_registers(random, unsound, &mut state);
     put_flags(random, &mut state);

@@ -1,11 +1,12 @@
 //! Counts of calls, by where their run began and how they ended.
 use super::rare::Rare;
+use super::rates::Counts;
 use crate::differences::peripheral::Origin;
 use crate::report::Partings;
 use words::calls::End;
 
 /// The refusals that the peripheral draws.
-const NUMBERS: [u8; 9] = [1, 2, 7, 8, 9, 10, 11, 12, 13];
+const NUMBERS: [u8; 10] = [1, 2, 7, 8, 9, 10, 11, 12, 13, 14];
 
 /// Ends of calls by the number of the refusal.
 pub type Refusals = [u64; NUMBERS.len()];
@@ -27,6 +28,8 @@ pub struct Tally {
     pub validated: Refusals,
     pub partings: Partings,
     pub rare: Rare,
+    /// The rate sets of runs.
+    pub rates: Counts,
     pub differences: u64,
 }
 
@@ -62,5 +65,15 @@ impl Tally {
             println!();
         }
         self.partings.print();
+    }
+
+    /// Prints the last line of a part.
+    pub fn close(&self, name: &str, seed: u64, seconds: f64) {
+        let calls = self.calls();
+        let rate = calls as f64 / seconds / 1e6;
+        println!(
+            "{name}: seed {seed}, {calls} calls, each with 13 questions after it, {seconds:.1} s, {rate:.2} million calls \
+             a second"
+        );
     }
 }

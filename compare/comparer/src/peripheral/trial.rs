@@ -9,6 +9,7 @@ use traffic::host::{Host, LULL};
 use traffic::random::Random;
 use words::iic::{self, Call, State};
 use words::layout::{Args, Set};
+use words::rates::Rates;
 
 pub struct Trial<'a> {
     machine: Machine,
@@ -22,12 +23,13 @@ pub struct Trial<'a> {
 impl<'a> Trial<'a> {
     fn new(set: ClockSet, machine: Machine, tally: &'a mut Tally) -> Self {
         tally.runs[machine.origin() as usize] += 1;
+        tally.rates.add(&iic::rates(machine.state()));
         Self { run: Run::new(set.words, &machine), machine, set, deadline: None, tally }
     }
 
-    /// From the default; none where that differs.
-    pub fn fresh(set: Set, tally: &'a mut Tally) -> Option<Self> {
-        match Machine::fresh() {
+    /// From the default with that rate set; none where that differs.
+    pub fn fresh(rates: &Rates, set: Set, tally: &'a mut Tally) -> Option<Self> {
+        match Machine::fresh(rates) {
             Ok(machine) => Some(Self::new(ClockSet::new(set), machine, tally)),
             Err(difference) => {
                 tally.differences += 1;

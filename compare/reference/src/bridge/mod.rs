@@ -6,6 +6,7 @@ mod wait;
 use crate::mcu::clocks::startup::inside;
 use crate::mcu::clocks::Clocks;
 use crate::{Error, Time};
+pub use iic::Rated;
 use std::any::Any;
 use std::panic::{catch_unwind, AssertUnwindSafe};
 use words::calls::{Answer, Call, End, Reference, Trap};

@@ -7,6 +7,7 @@ use crate::peripheral::machine::{ClockSet, Machine};
 use std::fs;
 use words::iic::{self, Call, State};
 use words::layout;
+use words::rates::Rates;
 
 const TESTS: &str = concat!(include_str!("decided.rs"), include_str!("peripheral.rs"));
 
@@ -66,7 +67,7 @@ fn states(run: &[Step]) -> Vec<State> {
     let plain = plain_player::play_like(answers.as_bytes(), trace.as_bytes(), out.len());
     assert_eq!(String::from_utf8(plain.bytes).unwrap(), answers);
     let set = ClockSet::new(plain_set(0, DEFAULT));
-    let mut machine = Machine::fresh().unwrap();
+    let mut machine = Machine::fresh(&Rates::DEFAULT).unwrap();
     run.iter()
         .map(|step| {
             machine.call(step.call, &set, &iic::args(step.now, step.operands)).unwrap();

@@ -11,6 +11,7 @@ use traffic::exact;
 use words::calls::{Answer, End, Reference, Trap};
 use words::iic::{self, Call, Peripheral, State};
 use words::layout::{self, Args, Set};
+use words::rates::Rates;
 
 /// The state of the port and the words of both builds', after one call on a state that is handed in.
 struct Left {
@@ -46,7 +47,7 @@ fn check(row: &'static str, call: Call, state: &State, set: &Set, args: &Args, e
 /// The state after calls from the default, all of which end alike in both builds and the port.
 pub fn alike(play: impl FnOnce(&mut Stage) -> Option<()>) -> State {
     let (set, mut tally) = (plain_set(0, DEFAULT), Tally::default());
-    let mut trial = Trial::fresh(set, &mut tally).unwrap();
+    let mut trial = Trial::fresh(&Rates::DEFAULT, set, &mut tally).unwrap();
     play(&mut Stage::new(&mut trial, system(&set), 0)).expect("a difference");
     let state = *trial.state();
     assert!(tally.partings.is_empty());
@@ -233,7 +234,7 @@ fn refused_before_the_start() {
 /// Calls from the default, each at a time of its own, and the row and the ends of the last one.
 fn last_from_the_default(set: Set, calls: &[(u128, Call, [u64; 2])]) -> (&'static str, [Option<End>; 3]) {
     let set = ClockSet::new(set);
-    let mut machine = Machine::fresh().unwrap();
+    let mut machine = Machine::fresh(&Rates::DEFAULT).unwrap();
     for (now, call, operands) in calls {
         machine.parted.clear();
         machine.call(*call, &set, &args(layout::halves(*now), *operands)).unwrap();
@@ -352,5 +353,33 @@ fn a_clock_with_a_zero() {
     for call in [Call::Read, Call::Write, Call::InputPins, Call::SetGate, Call::Advance, Call::Deadline] {
         port::iic::call(call, &mut state, &set, &args([0, 0], [0, 0]), &mut answer);
         assert_eq!((seen(&answer, 0), state), ("1".to_string(), before), "{call:?}");
+    }
+}
+
+/// A monitor that isn't below every half clock of its group: 14 where the set is given, at each call that can change the state
+/// and at `validate`, after 1 and before 9. `deadline` and what is only looked at answer.
+#[test]
+fn a_rate_set_out_of_range() {
+    let mut rates = Rates::DEFAULT;
+    rates.monitors[1] = 80;
+    let (state, end) = port::iic::with_rates(&rates);
+    assert_eq!((end, iic::rates(&state)), (End::Refused(14), rates));
+    assert_eq!(state[..iic::FIELDS], port::iic::fresh()[..iic::FIELDS]);
+    let [sound, mut zero] = [plain_set(0, DEFAULT); 2];
+    zero[2] = 0;
+    let mut nine = state;
+    nine[iic::COUNT] = 8;
+    let refused = [Call::Read, Call::Write, Call::InputPins, Call::SetGate, Call::Advance, Call::Validate];
+    for (call, before) in refused.into_iter().flat_map(|call| [(call, state), (call, nine)]) {
+        for (set, first) in [(&sound, 14), (&zero, if call.takes_set() { 1 } else { 14 })] {
+            let (mut left, mut answer) = (before, Answer::empty());
+            port::iic::call(call, &mut left, set, &args([0, 0], [1, 0]), &mut answer);
+            assert_eq!((answer.end, left), (End::Refused(first), before), "{call:?}");
+        }
+    }
+    for call in [Call::Deadline, Call::Observe] {
+        let (mut left, mut answer) = (nine, Answer::empty());
+        port::iic::call(call, &mut left, &sound, &args([0, 0], [0, 0]), &mut answer);
+        assert_eq!((answer.end, left), (End::Done, nine), "{call:?}");
     }
 }

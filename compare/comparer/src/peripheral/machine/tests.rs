@@ -7,6 +7,15 @@ use traffic::host::Host;
 use traffic::random::Random;
 use words::calls::Trap;
 use words::layout::{self, WAIT};
+use words::rates::Rates;
+
+/// The default set, or another.
+fn rate_set(random: &mut Random) -> Rates {
+    if random.once_in(2) {
+        return rates::random(random);
+    }
+    Rates::DEFAULT
+}
 
 /// A call on a state that is made.
 struct Case {
@@ -23,7 +32,8 @@ impl Case {
     fn random(random: &mut Random) -> Self {
         let set = if random.once_in(2) { inputs::set(random) } else { new_set(random).0 };
         let now = begin(random, &set);
-        let state = states::random(random, &set, now);
+        let rates = rate_set(random);
+        let state = states::random(random, &rates, &set, now);
         let mut host = Host::over_state(random, now, system(&set));
         let (call, mut args) = host.next(random, &state);
         let call = random.pick(&[call, call, call, Call::SetGate, Call::Deadline, Call::Validate, Call::Observe]);
@@ -44,7 +54,7 @@ impl Case {
         }
         // The watch clock's eighth and sixteenth edge, and times at which it has none.
         let now = [0, random.pick(&[0, 1, 8 << 49, 16 << 49])];
-        let mut state = states::random(random, &set, layout::time_at(&now, 0));
+        let mut state = states::random(random, &Rates::DEFAULT, &set, layout::time_at(&now, 0));
         state[iic::MODE] &= 0xc0;
         state[iic::COUNT] &= 7;
         for place in [iic::CLOCK_WAIT, iic::MONITOR_WAIT] {
@@ -87,7 +97,7 @@ impl Case {
 /// Every end that a side can be changed to.
 fn ends() -> impl Iterator<Item = End> {
     let traps = [Trap::Overflow, Trap::Shift, Trap::Index, Trap::Other].map(End::Trapped);
-    [End::Done].into_iter().chain((1..=13).map(End::Refused)).chain(traps)
+    [End::Done].into_iter().chain((1..=14).map(End::Refused)).chain(traps)
 }
 
 /// Each word of the port's state, each word of its answer, each other end.
@@ -151,7 +161,7 @@ fn each_change_is_a_difference() {
     let calls = ["Read", "Write", "InputPins", "SetGate", "Advance", "Deadline", "Validate", "Observe"];
     let ends = ["Done", "Refused(1)", "Refused(2)", "Refused(7)", "Refused(8)", "Refused(9)", "Refused(10)"];
     let rows = ["times_before_the_start", "a_clock_held_before_its_start", "divider_zero_of_a_wait"];
-    for what in calls.into_iter().chain(ends).chain(rows).chain(["Refused(11)", "Refused(12)"]) {
+    for what in calls.into_iter().chain(ends).chain(rows).chain(["Refused(11)", "Refused(12)", "Refused(14)"]) {
         assert!(met(what), "{what} never came up: {seen:?}");
     }
 }

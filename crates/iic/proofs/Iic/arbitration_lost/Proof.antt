@@ -7,7 +7,7 @@ yielded-in-requires c κs = tt
 
 returns : tie.Need-returns
 unfolding arbitrationLostOf
-returns c = simp (c .before .before .before .yielded-in .ensures)
+returns c = simp (c .before .before .before .before .yielded-in .ensures)
 
 pub arbitration-lost-spec : {M : Type 1} → statement M
 arbitration-lost-spec = tie.close (tie.spec yielded-in-requires returns)

@@ -7,7 +7,7 @@ first-condition-requires c κs = tt
 
 returns : tie.Need-returns
 unfolding begunOf
-returns c = simp (c .before .before .before .first-condition .ensures)
+returns c = simp (c .before .before .before .before .first-condition .ensures)
 
 pub begun-spec : {M : Type 1} → statement M
 begun-spec = tie.close (tie.spec first-condition-requires returns)

@@ -1,4 +1,4 @@
-use Rattle.iic.specs.Conditions.{busStopOf, releaseSdaOf}
+use Rattle.iic.specs.Conditions.{busStopOf}
 use Rattle.iic.proofs.Iic.bus_stop.Statement.{statement}
 use Rattle.iic.proofs.Iic.bus_stop.Tie as tie
 
@@ -8,13 +8,15 @@ flag-requires c κs = tt
 raise-requires : tie.Need-raise-requires
 raise-requires c κs = tt
 
-returns : tie.Need-returns
-unfolding busStopOf releaseSdaOf
-returns c = simp (rw (c .before .before .before .before .before .before .before .before .raise .ensures) at (c .if1 .taken), c .before .before .before .before .before .before .before .before .raise .ensures, c .before .before .before .before .before .before .before .before .before .flag .ensures)
+at-stop-requires : tie.Need-at-stop-requires
+at-stop-requires c κs = tt
 
-returns-2 : tie.Need-returns-2
-unfolding busStopOf releaseSdaOf
-returns-2 c = simp (rw (c .before .before .before .before .before .before .before .before .before .raise .ensures) at (c .before .if1 .left), c .before .before .before .before .before .before .before .before .before .raise .ensures, c .before .before .before .before .before .before .before .before .before .before .flag .ensures)
+release-sda-requires : tie.Need-release-sda-requires
+release-sda-requires c κs = tt
+
+returns : tie.Need-returns
+unfolding busStopOf
+returns c = simp (c .release-sda .ensures, c .before .at-stop .ensures, c .before .before .raise .ensures, c .before .before .before .flag .ensures)
 
 pub bus-stop-spec : {M : Type 1} → statement M
-bus-stop-spec = tie.close (tie.spec flag-requires raise-requires returns returns-2)
+bus-stop-spec = tie.close (tie.spec flag-requires raise-requires at-stop-requires release-sda-requires returns)

@@ -33,7 +33,7 @@ clock-from-requires : tie.Need-clock-from-requires
 clock-from-requires c κs = tt
 
 returns-2 : tie.Need-returns-2
-returns-2 c = simp (c .clock-from .ensures, c .before .made-half .ensures, ← c .before .before .checked-add .ensures, ← c .before .before .before .period .ensures, c .before .before .before .before .before .clock-wait .given .1)
+returns-2 c = simp (c .clock-from .ensures, c .before .made-half .ensures, ← c .before .before .checked-add .ensures, ← c .before .before .before .period .ensures, c .before .before .before .before .before .before .clock-wait .given .1)
 
 pub longer-spec : {M : Type 1} → statement M
 longer-spec = tie.close (tie.spec enum-known-clock-wait enum-told fine-requires returns period-requires cast-extra mul-extra checked-add-requires made-half-requires clock-from-requires returns-2)

@@ -1,16 +1,16 @@
-use Rattle.iic.specs.State.{defaultIic}
+use mathlib.Core.Path.{_∙_, ap}
+use Rattle.iic.specs.State.{initial}
 use Rattle.iic.proofs.Iic.new.Statement.{statement}
 use Rattle.iic.proofs.Iic.new.Tie as tie
 
-new-requires : tie.Need-new-requires
-new-requires c κs = tt
+default-requires : tie.Need-default-requires
+default-requires c κs = tt
 
-new-requires-2 : tie.Need-new-requires-2
-new-requires-2 c κs = tt
+initial-requires : tie.Need-initial-requires
+initial-requires c κs = tt
 
 returns : tie.Need-returns
-unfolding defaultIic
-returns c = simp (c .new2 .ensures, c .before .new .ensures)
+returns c = c .initial .ensures ∙ ap initial (c .before .default .ensures)
 
 pub new-spec : {M : Type 1} → statement M
-new-spec = tie.close (tie.spec new-requires new-requires-2 returns)
+new-spec = tie.close (tie.spec default-requires initial-requires returns)

@@ -30,7 +30,7 @@ fine-requires c κs = tt
 
 returns : tie.Need-returns
 unfolding monitorStepOf startMonitorOf
-returns c = simp (c .monitor-from .ensures, ← c .before .after .ensures, ← c .before .before .monitor-halves .ensures, c .before .before .before .if2 .taken, finished (c .before .before .before .before .before .before .args .self .ended) (sym (c .before .before .before .before .before .went-on .ensures) ∙ c .before .before .before .before .if1 .taken))
+returns c = simp (c .monitor-from .ensures, ← c .before .after .ensures, ← c .before .before .monitor-halves .ensures, c .before .before .before .before .before .if2 .taken, finished (c .before .before .before .before .before .before .before .before .args .self .ended) (sym (c .before .before .before .before .before .before .before .went-on .ensures) ∙ c .before .before .before .before .before .before .if1 .taken))
 
 returns-2 : tie.Need-returns-2
 unfolding monitorStepOf startMonitorOf

@@ -1,18 +1,18 @@
 use native.Mathlib.Omega.{arith}
 use lib.Bits.{and-le-r}
 use mathlib.Core.Path.{refl}
-use Rattle.waits.proofs.rates.rate.Statement.{statement}
-use Rattle.waits.proofs.rates.rate.Tie as tie
 use Rattle.waits.specs.Rates.{rate}
+use Rattle.waits.proofs.rates.Rates.rate.Statement.{statement}
+use Rattle.waits.proofs.rates.Rates.rate.Tie as tie
 
 cast-result : tie.Need-cast-result
-cast-result c = record { fits = omega (arith, and-le-r (c .args .control) 7) }
+cast-result c = record { fits = omega (arith, and-le-r (c .before .args .control) 7) }
 
 mul-result : tie.Need-mul-result
-mul-result c = record { fits = omega (arith, and-le-r (c .args .control) 7) }
+mul-result c = record { fits = omega (arith, and-le-r (c .before .args .control) 7) }
 
 array-read-result : tie.Need-array-read-result
-array-read-result c = omega (arith, and-le-r (c .args .control) 7)
+array-read-result c = omega (arith, and-le-r (c .before .args .control) 7)
 
 returns : tie.Need-returns
 unfolding rate

@@ -1,10 +1,10 @@
-use borrow.Author.Needs.{needs}
-use Rattle.waits.proofs.rates.period.Statement.{statement}
-use Rattle.waits.proofs.rates.period.Tie as tie
 use Rattle.waits.specs.Rates.{periodOf}
+use borrow.Author.Needs.{needs}
+use Rattle.waits.proofs.rates.Rates.period.Statement.{statement}
+use Rattle.waits.proofs.rates.Rates.period.Tie as tie
 
 rate-requires : tie.Need-rate-requires
-rate-requires c κs = tt
+rate-requires c κs = search needs
 
 cast-n : tie.Need-cast-n
 cast-n c = search needs
