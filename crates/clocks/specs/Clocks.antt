@@ -31,7 +31,7 @@ defaultFrequencies = record { «main_hz» = 3686400; «watch_hz» = 32768; «on_
 
 -- a domain that runs from now on at hz / divide Hz
 abbrev pub domainAt : Time → ℕ → ℕ → Domain
-domainAt now hz divide = runningFrom now (record { start = now; numerator = hz; denominator = divide })
+domainAt now hz divide = runningFrom now (record { start = now; numerator = hz; denominator = divide; ordinal = 0; fraction = 0 })
 
 -- the system, the CPU and the oscillator at the main frequency, the subclock at an eighth of the watch's
 unfoldable pub clockSet : Time → Frequencies → Clocks

@@ -45,7 +45,7 @@ domainTime d now = cond (zeroIn (d .clock)) (Unset 1) (At (shown d now))
 -- none after it, only those before it. A stopped one counts none.
 unfoldable pub domainTicks : Domain → Time → Count
 domainTicks d now =
-    cond (zeroIn (d .clock)) (Refused 1) (cond (d .running) (edgesBeforeOf (d .clock) (nextTime now)) (Of 0))
+    cond (zeroIn (d .clock)) (Refused 1) (cond (d .running) (edgesBeforeOf (d .clock) (nextTime now)) (Of (d .clock .ordinal)))
 
 -- the last time, 2 ^ 128 - 1
 abbrev pub lastTime : Time

@@ -83,6 +83,8 @@ fn domain_at(now: Time, hz: u64, divide: u64) -> Domain
             start: now,
             numerator: hz,
             denominator: divide,
+            ordinal: 0,
+            fraction: 0,
         },
     )
 }
