@@ -46,7 +46,7 @@ clockSet now f = record {
   «prescaler_w» = freshW;
 }
 
--- a clock of the set holds a zero frequency or denominator
+-- a clock of the set holds a zero frequency or denominator, or a fraction that isn't below its numerator
 unfoldable pub hasZero : Clocks → Bool
 hasZero k =
     zeroIn (k .system .clock) || zeroIn (k .cpu .clock) || zeroIn (k .watch .clock) || zeroIn (k .«on_chip» .clock)

@@ -74,3 +74,8 @@ inWidth n c = ltb (startAfter n c) (2 ^ 128) && ltb (c .ordinal + n) (2 ^ 64)
 -- refusal 1 comes first, then 7 where the edge or the ordinal leaves its width
 unfoldable pub moveOf : ℕ → Clock → NewClock
 moveOf n c = cond (zeroIn c) (made.Refused 1) (cond (inWidth n c) (made.Made (movedBy n c)) (made.Refused 7))
+
+-- one move after another that wasn't refused
+abbrev pub andMove : NewClock → (Clock → NewClock) → NewClock
+andMove (made.Made c) f = f c
+andMove (made.Refused r) f = made.Refused r
