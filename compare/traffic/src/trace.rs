@@ -9,7 +9,7 @@ use words::iic::{Call, Peripheral, State, STATE};
 use words::layout::{self, Args};
 
 /// The system clock: its start, numerator and denominator.
-const CLOCK: exact::Clock = [0, 0, 3_686_400, 1];
+const CLOCK: exact::Clock = [0, 0, 3_686_400, 1, 0, 0];
 
 struct Generator {
     random: Random,
