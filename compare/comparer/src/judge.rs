@@ -224,7 +224,7 @@ mod tests {
         let main = random.pick(&[3_686_400, 3_686_400, u64::MAX]);
         let mut set = plain_set(0, [main, 32_768, 1_310_720]);
         set[0] = u64::from(random.once_in(4));
-        set[layout::ORDINAL] = random.pick(&[0, 0, 2]);
+        set[layout::ORDINAL] = random.pick(&[0, 0, 2, 4]);
         set[layout::RUNNING] = u64::from(!random.once_in(4));
         set[layout::AT_S + layout::DIVIDER..layout::AT_W].fill(u64::MAX);
         set[layout::AT_W + layout::DIVIDER..].fill(u64::MAX);

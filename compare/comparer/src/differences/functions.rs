@@ -74,8 +74,15 @@ const ROWS: &[Row<Call, Condition>] = &[
     },
     Row {
         name: "prescaler_sum_of_other_waits",
-        calls: &[Call::WaitEdgesBefore, Call::WaitPause],
+        calls: &[Call::WaitEdgesBefore],
         ends: ANSWERED,
+        like: Like::Checked,
+        when: prescaler_sum,
+    },
+    Row {
+        name: "prescaler_sum_of_other_waits",
+        calls: &[Call::WaitPause],
+        ends: &[[DONE, TOO_LARGE, SEVEN], [EIGHT, TOO_LARGE, SEVEN]],
         like: Like::Checked,
         when: prescaler_sum,
     },
