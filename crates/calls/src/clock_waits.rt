@@ -4,8 +4,8 @@ ghost use Rattle.calls.specs.Told.{Told, Written, deadlineNumber, newWai
 use super::number_of;
 use super::put_bool;
 use super::put_count;
-use super::put_refusal;
 use super::put_nine;
+use super::put_refusal;
 use super::sets::clocks_of;
 use super::tap_at;
 use super::time_at;

@@ -191,5 +191,16 @@ fn put_tap(tap: Tap, out: &mut [u64; 82]) -> u64
     ensures { λ r. ⌜ (r ≡ 0) × Told 10 r (now (out .entry)) (now (out .exit)) ⌝ }
 {
     let source = tap.source;
-    put_nine(number_of(source), tap.divide as u64, 0, 0, 0, 0, 0, 0, 0, out)
+    put_nine(
+        number_of(source),
+        tap.divide as u64,
+        0,
+        0,
+        0,
+        0,
+        0,
+        0,
+        0,
+        out,
+    )
 }
