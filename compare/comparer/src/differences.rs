@@ -76,6 +76,7 @@ pub fn row_added(number: u8) -> &'static str {
     match number {
         1 => "a_clock_with_a_zero",
         3 => "stage_out_of_range",
+        7 => "high_at_the_last_count",
         9 => "count_or_mode_out_of_range",
         10 => "a_frame_without_bits_to_go",
         14 => "a_rate_set_out_of_range",
@@ -85,12 +86,12 @@ pub fn row_added(number: u8) -> &'static str {
 
 /// Whether the level of a domain's clock at a time is found by a difference below zero: a running one before its start.
 fn before_start(domain: &[u64], now: u128) -> bool {
-    domain[4] != 0 && now < layout::time_at(domain, 0)
+    domain[layout::RUNNING] != 0 && now < layout::time_at(domain, 0)
 }
 
 /// The same of a stopped one, whose level is that at the time at which it is held.
 fn held_before_start(domain: &[u64]) -> bool {
-    domain[4] == 0 && layout::time_at(domain, 5) < layout::time_at(domain, 0)
+    domain[layout::RUNNING] == 0 && layout::time_at(domain, layout::HELD_AT) < layout::time_at(domain, 0)
 }
 
 /// The checked build's count of a tap's edges at a time.

@@ -78,8 +78,8 @@ impl Judge {
             Expected::Rust => same(function, &self.port, &self.plain),
             Expected::Parting(parting) => self.port.end == parting.end && self.left(function, parting),
             Expected::Added(number) => {
-                let unchanged = self.port.words[1..=function.gives] == args[..function.gives];
-                self.port.end == End::Refused(number) && (!function.always || unchanged)
+                let unchanged = || self.port.words[1..=function.gives] == args[..function.gives];
+                self.port.end == End::Refused(number) && (!function.always || unchanged())
             }
             Expected::Unknown => false,
         }
@@ -124,12 +124,28 @@ fn added(function: &Function, words: &Set, args: &Args) -> Option<u8> {
     if zero {
         return Some(1);
     }
+    if function.call == Call::ClocksHigh && high_at_the_top(words, args) {
+        return Some(7);
+    }
     let stages = match function.call {
         Call::CrossingsW | Call::TicksW | Call::HighW | Call::ParentEdgeW => layout::STAGES_W,
         _ => layout::STAGES_S,
     };
     let stage = args[function.place(Kind::Stage)?];
     (stage < 1 || stage > stages as u64).then_some(3)
+}
+
+/// Whether a moved clock's own level is asked for where its count is the last. The Rust, which asks for edges from the ordinal
+/// on, answers by an edge that it hasn't counted.
+fn high_at_the_top(words: &Set, args: &Args) -> bool {
+    let domain = layout::domain(words, args[0] as usize);
+    let ticks = || {
+        let (mut undivided, mut answer) = (*args, Answer::empty());
+        undivided[1] = 1;
+        reference::Bridge::answer(Call::ClocksTicks, reference::Bridge::set(words).as_ref(), &undivided, &mut answer);
+        answer.words[1]
+    };
+    domain[layout::ORDINAL] > 0 && args[1] < 2 && ticks() == u64::MAX
 }
 
 #[cfg(test)]
@@ -208,7 +224,8 @@ mod tests {
         let main = random.pick(&[3_686_400, 3_686_400, u64::MAX]);
         let mut set = plain_set(0, [main, 32_768, 1_310_720]);
         set[0] = u64::from(random.once_in(4));
-        set[4] = u64::from(!random.once_in(4));
+        set[layout::ORDINAL] = random.pick(&[0, 0, 2, 4]);
+        set[layout::RUNNING] = u64::from(!random.once_in(4));
         set[layout::AT_S + layout::DIVIDER..layout::AT_W].fill(u64::MAX);
         set[layout::AT_W + layout::DIVIDER..].fill(u64::MAX);
         set

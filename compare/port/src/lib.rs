@@ -12,6 +12,7 @@ use words::layout::{Args, Out, Set};
 unsafe extern "C" {
     fn probe_answer(number: u64, set: &Set, args: &Args, out: &mut Out) -> u64;
     fn probe_new_clocks(args: &Args, out: &mut Out) -> u64;
+    fn probe_advance_system(set: &Set, args: &Args, out: &mut Out) -> u64;
     fn probe_turn(number: u64, set: &Set, args: &Args, out: &mut Out) -> u64;
     /// The time of an edge, for the benchmark. Where it is refused nothing is written.
     pub fn probe_after(
@@ -41,6 +42,7 @@ pub fn answer(call: Call, set: &Set, args: &Args, out: &mut Answer) {
     let refusal = unsafe {
         match call {
             Call::ClocksNew => probe_new_clocks(args, words),
+            Call::ClocksAdvanceSystem => probe_advance_system(set, args, words),
             Call::WaitPause | Call::WaitResume | Call::WaitSelect => probe_turn(call as u64, set, args, words),
             _ => probe_answer(call as u64, set, args, words),
         }

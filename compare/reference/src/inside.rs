@@ -11,30 +11,37 @@ pub(crate) fn time(words: &[u64], at: usize) -> Time {
     Time::from_raw(layout::time_at(words, at))
 }
 
-/// None where the clock holds a zero.
+/// None where the clock holds a zero, or a fraction that isn't below its numerator.
 pub(crate) fn clock(words: &[u64]) -> Option<Clock> {
-    Clock::new(time(words, 0), words[2], words[3]).ok()
+    if layout::has_zero(words) {
+        return None;
+    }
+    let mut clock = Clock::new(time(words, 0), words[2], words[3]).ok()?;
+    clock.ordinal = words[layout::ORDINAL];
+    clock.fraction = words[layout::FRACTION];
+    Some(clock)
 }
 
-/// Start, numerator and denominator; with what the port leaves out, which is 0 for every clock compared.
+/// Start, numerator, denominator, ordinal and fraction.
 pub(crate) fn put_clock(clock: &Clock, out: &mut [u64]) {
-    assert!(clock.fraction == 0 && clock.ordinal == 0, "a clock that has been moved on");
     let period = clock.whole * u128::from(clock.denominator) + u128::from(clock.remainder);
     let [denominator, rest] = layout::halves(period);
     assert!(rest == 0, "a period that is no multiple of a second");
     out[..2].copy_from_slice(&layout::halves(clock.at.raw()));
     out[2] = clock.denominator;
     out[3] = denominator;
+    out[layout::ORDINAL] = clock.ordinal;
+    out[layout::FRACTION] = clock.fraction;
 }
 
 fn domain(words: &[u64]) -> Option<Domain> {
-    Some(Domain { clock: clock(words)?, running: words[4] != 0, held_at: time(words, 5) })
+    Some(Domain { clock: clock(words)?, running: words[layout::RUNNING] != 0, held_at: time(words, layout::HELD_AT) })
 }
 
 fn put_domain(domain: &Domain, out: &mut [u64]) {
     put_clock(&domain.clock, out);
-    out[4] = u64::from(domain.running);
-    out[5..7].copy_from_slice(&layout::halves(domain.held_at.raw()));
+    out[layout::RUNNING] = u64::from(domain.running);
+    out[layout::HELD_AT..][..layout::TIME].copy_from_slice(&layout::halves(domain.held_at.raw()));
 }
 
 pub(crate) fn domain_new(now: Time, hz: u64, divide: u64, out: &mut [u64]) -> Result<(), Error> {
@@ -111,6 +118,13 @@ pub(crate) fn set(words: &layout::Set) -> Option<Clocks> {
         lock: LockMemo::default(),
         projection: Projection::default(),
     })
+}
+
+/// The set with the start of its system clock moved up.
+pub(crate) fn advance_system(clocks: &Clocks, edges: u64) -> Result<Clocks, Error> {
+    let mut moved = clocks.clone();
+    moved.system.clock.advance(edges)?;
+    Ok(moved)
 }
 
 pub(crate) fn put_set(clocks: &Clocks, out: &mut [u64]) {

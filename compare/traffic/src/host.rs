@@ -38,7 +38,7 @@ impl Host {
         let mut host = Self {
             now,
             clock,
-            period: exact::edge(&clock, 1).saturating_sub(layout::time_at(&clock, 0)).max(1),
+            period: exact::edge(&clock, exact::first(&clock)).saturating_sub(layout::time_at(&clock, 0)).max(1),
             habits: Habits::any(random),
             other: [true; 2],
             script: VecDeque::new(),

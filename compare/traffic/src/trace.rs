@@ -11,7 +11,7 @@ use words::rates::Rates;
 use words::Put;
 
 /// The system clock: its start, numerator and denominator.
-const CLOCK: exact::Clock = [0, 0, 3_686_400, 1];
+const CLOCK: exact::Clock = [0, 0, 3_686_400, 1, 0, 0];
 
 struct Generator {
     random: Random,

@@ -145,6 +145,8 @@ pub enum Call {
     WaitPause,
     WaitResume,
     WaitSelect,
+    ClockAdvance,
+    ClocksAdvanceSystem,
 }
 
 #[derive(Clone, Copy)]
@@ -191,10 +193,11 @@ pub const TIME: &[Function] = &[
     plain(Call::TimeDurationSince, "Time::duration_since", &[Time, Time], 2),
     plain(Call::TimeNext, "Time::next", &[Time], 2),
     plain(Call::TimeMidway, "Time::midway", &[Time, Time], 2),
-    plain(Call::ClockNew, "Clock::new", &[Time, Hz, Denominator], 4),
+    plain(Call::ClockNew, "Clock::new", &[Time, Hz, Denominator], layout::CLOCK),
     plain(Call::ClockHasZero, "Clock::has_zero", &[Clock], 1),
     plain(Call::ClockAfter, "Clock::after", &[Clock, Edges], 2),
     plain(Call::ClockEdgesBefore, "Clock::edges_before", &[Clock, Time], 1),
+    plain(Call::ClockAdvance, "Clock::advance", &[Clock, Edges], layout::CLOCK),
 ];
 
 pub const CLOCKS: &[Function] = &[
@@ -206,7 +209,7 @@ pub const CLOCKS: &[Function] = &[
     plain(Call::TicksW, "PrescalerW::ticks", &[PrescalerW, Stage, Parent], 1),
     plain(Call::HighW, "PrescalerW::high", &[PrescalerW, Stage, Parent], 1),
     plain(Call::ParentEdgeW, "PrescalerW::parent_edge", &[PrescalerW, Stage, Tick], 1),
-    plain(Call::DomainNew, "Domain::new", &[Time, Hz, Denominator], 7),
+    plain(Call::DomainNew, "Domain::new", &[Time, Hz, Denominator], layout::DOMAIN),
     plain(Call::DomainTime, "Domain::time", &[Domain, Time], 2),
     plain(Call::DomainTicks, "Domain::ticks", &[Domain, Time], 1),
     plain(Call::DomainHalfTicks, "Domain::half_ticks", &[Domain, Time], 1),
@@ -228,6 +231,7 @@ pub const CLOCKS: &[Function] = &[
     plain(Call::ClocksHigh, "Clocks::high", &[Tap, Time], 1).over_set(),
     plain(Call::HalfTicks, "Clocks::system_half_ticks", &[Time], 1).over_set(),
     plain(Call::HalfEdge, "Clocks::system_half_edge", &[Tick], 2).over_set(),
+    plain(Call::ClocksAdvanceSystem, "Clocks::advance_system", &[Edges], layout::SET).over_set(),
     plain(Call::WaitAfter, "ClockWait::after", &[Tap, Time, Edges], 5).over_set(),
     plain(Call::WaitDeadline, "ClockWait::deadline", &[Wait], 3).over_set(),
     plain(Call::WaitPause, "ClockWait::pause", &[Wait, Time], 5).over_set().always(),

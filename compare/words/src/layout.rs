@@ -1,10 +1,14 @@
 //! Where the words of what is handed in lie. The Rattle crate calls reads and writes them at the same places.
 
 pub const TIME: usize = 2;
-/// Start, numerator, denominator.
-pub const CLOCK: usize = 4;
+/// Start, numerator, denominator, ordinal, fraction.
+pub const CLOCK: usize = 6;
+pub const ORDINAL: usize = 4;
+pub const FRACTION: usize = 5;
 /// A clock, whether it runs, and the time at which it was held.
-pub const DOMAIN: usize = 7;
+pub const DOMAIN: usize = 9;
+pub const RUNNING: usize = CLOCK;
+pub const HELD_AT: usize = RUNNING + 1;
 /// Anchor, phase, whether it runs; then the count of each stage.
 pub const DIVIDER: usize = 3;
 pub const STAGES_S: usize = 13;
@@ -45,9 +49,10 @@ pub fn time_at(words: &[u64], at: usize) -> u128 {
 pub fn domain(set: &Set, source: usize) -> &[u64] {
     &set[source * DOMAIN..][..DOMAIN]
 }
-/// Whether a clock, or the clock of a domain, holds a zero frequency or denominator.
+/// Whether a clock, or the clock of a domain, holds a zero frequency or denominator, or a fraction that isn't below its
+/// numerator.
 pub fn has_zero(clock: &[u64]) -> bool {
-    clock[2] == 0 || clock[3] == 0
+    clock[3] == 0 || clock[2] <= clock[FRACTION]
 }
 /// Whether some clock of the set does.
 pub fn set_has_zero(set: &Set) -> bool {

@@ -17,5 +17,5 @@ pub told : {n : ℕ} (l words : List ℕ) → length words < n → Told n 0 l (s
 told l words h = answered refl (record { words = words; few = h; is = refl })
 
 -- a number alone
-pub numbered : (r : ℕ) (l : List ℕ) → Told 8 r l (sets l 0 (r ∷ []))
+pub numbered : (r : ℕ) (l : List ℕ) → Told 10 r l (sets l 0 (r ∷ []))
 numbered r l = record { written = record { words = []; few = lit< tt; is = refl }; none = λ p. refl }

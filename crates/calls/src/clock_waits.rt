@@ -4,8 +4,8 @@ ghost use Rattle.calls.specs.Told.{Told, Written, deadlineNumber, newWai
 use super::number_of;
 use super::put_bool;
 use super::put_count;
+use super::put_nine;
 use super::put_refusal;
-use super::put_seven;
 use super::sets::clocks_of;
 use super::tap_at;
 use super::time_at;
@@ -17,8 +17,8 @@ use clocks::wait::WaitState;
 use clocks::wait::Waited;
 use time::Time;
 
-pub(crate) fn call(number: u64, set: &[u64; 69], args: &[u64; 24], out: &mut [u64; 70]) -> u64
-    ensures { λ r. ⌜ Told 8 r (now (out .entry)) (now (out .exit)) ⌝ }
+pub(crate) fn call(number: u64, set: &[u64; 81], args: &[u64; 24], out: &mut [u64; 82]) -> u64
+    ensures { λ r. ⌜ Told 10 r (now (out .entry)) (now (out .exit)) ⌝ }
 {
     let wait = wait_at(args);
     let clocks = clocks_of(set);
@@ -36,8 +36,8 @@ pub(crate) fn call(number: u64, set: &[u64; 69], args: &[u64; 24], out: &mut [u6
 }
 
 // A call that changes a wait, which is written where it is refused, too.
-pub fn turn(number: u64, set: &[u64; 69], args: &[u64; 24], out: &mut [u64; 70]) -> u64
-    ensures { λ r. ⌜ Written 8 r (now (out .entry)) (now (out .exit)) ⌝ }
+pub fn turn(number: u64, set: &[u64; 81], args: &[u64; 24], out: &mut [u64; 82]) -> u64
+    ensures { λ r. ⌜ Written 10 r (now (out .entry)) (now (out .exit)) ⌝ }
 {
     let wait = wait_at(args);
     let clocks = clocks_of(set);
@@ -73,9 +73,9 @@ fn put_parts(
     state: u64,
     count: u64,
     fraction: u64,
-    out: &mut [u64; 70],
+    out: &mut [u64; 82],
 ) -> u64
-    ensures { λ r. ⌜ (r ≡ refusal) × Written 8 r (now (out .entry)) (now (out .exit)) ⌝ }
+    ensures { λ r. ⌜ (r ≡ refusal) × Written 10 r (now (out .entry)) (now (out .exit)) ⌝ }
 {
     let source = tap.source;
     out[0] = refusal;
@@ -87,8 +87,8 @@ fn put_parts(
     refusal
 }
 
-fn put_wait(refusal: u64, wait: ClockWait, out: &mut [u64; 70]) -> u64
-    ensures { λ r. ⌜ (r ≡ refusal) × Written 8 r (now (out .entry)) (now (out .exit)) ⌝ }
+fn put_wait(refusal: u64, wait: ClockWait, out: &mut [u64; 82]) -> u64
+    ensures { λ r. ⌜ (r ≡ refusal) × Written 10 r (now (out .entry)) (now (out .exit)) ⌝ }
 {
     let tap = wait.tap;
     let state = wait.state;
@@ -99,24 +99,24 @@ fn put_wait(refusal: u64, wait: ClockWait, out: &mut [u64; 70]) -> u64
     }
 }
 
-pub(crate) fn put_deadline(d: Deadline, out: &mut [u64; 70]) -> u64
-    ensures { λ r. ⌜ (r ≡ deadlineNumber d) × Told 8 r (now (out .entry)) (now (out .exit)) ⌝ }
+pub(crate) fn put_deadline(d: Deadline, out: &mut [u64; 82]) -> u64
+    ensures { λ r. ⌜ (r ≡ deadlineNumber d) × Told 10 r (now (out .entry)) (now (out .exit)) ⌝ }
 {
     match d {
-        Deadline::Never => put_seven(0, 0, 0, 0, 0, 0, 0, out),
-        Deadline::At(t) => put_seven(1, t.seconds, t.fraction, 0, 0, 0, 0, out),
+        Deadline::Never => put_nine(0, 0, 0, 0, 0, 0, 0, 0, 0, out),
+        Deadline::At(t) => put_nine(1, t.seconds, t.fraction, 0, 0, 0, 0, 0, 0, out),
         Deadline::Refused(n) => put_refusal(n, out),
     }
 }
 
-fn put_waited(w: Waited, out: &mut [u64; 70]) -> u64
-    ensures { λ r. ⌜ (r ≡ w .refusal) × Written 8 r (now (out .entry)) (now (out .exit)) ⌝ }
+fn put_waited(w: Waited, out: &mut [u64; 82]) -> u64
+    ensures { λ r. ⌜ (r ≡ w .refusal) × Written 10 r (now (out .entry)) (now (out .exit)) ⌝ }
 {
     put_wait(w.refusal as u64, w.wait, out)
 }
 
-fn put_made(made: NewWait, out: &mut [u64; 70]) -> u64
-    ensures { λ r. ⌜ (r ≡ newWaitNumber made) × Told 8 r (now (out .entry)) (now (out .exit)) ⌝ }
+fn put_made(made: NewWait, out: &mut [u64; 82]) -> u64
+    ensures { λ r. ⌜ (r ≡ newWaitNumber made) × Told 10 r (now (out .entry)) (now (out .exit)) ⌝ }
 {
     match made {
         NewWait::Made(w) => put_wait(0, w, out),

@@ -23,8 +23,8 @@ use time::Moment;
 use time::Time;
 
 // A call that is no peripheral's.
-pub fn answer(number: u64, set: &[u64; 69], args: &[u64; 24], out: &mut [u64; 70]) -> u64
-    ensures { λ r. ⌜ Told 8 r (now (out .entry)) (now (out .exit)) ⌝ }
+pub fn answer(number: u64, set: &[u64; 81], args: &[u64; 24], out: &mut [u64; 82]) -> u64
+    ensures { λ r. ⌜ Told 10 r (now (out .entry)) (now (out .exit)) ⌝ }
 {
     if number < 10 {
         return instants::call(number, args, out);
@@ -40,6 +40,9 @@ pub fn answer(number: u64, set: &[u64; 69], args: &[u64; 24], out: &mut [u64; 70
     }
     if number < 39 {
         return sets::call(number, set, args, out);
+    }
+    if number == 49 {
+        return instants::advance(args, out);
     }
     clock_waits::call(number, set, args, out)
 }
@@ -59,6 +62,8 @@ fn clock_at(args: &[u64; 24]) -> Clock {
         start: time_at(args, 0),
         numerator: args[2],
         denominator: args[3],
+        ordinal: args[4],
+        fraction: args[5],
     }
 }
 
@@ -102,8 +107,19 @@ fn tap_at(args: &[u64; 24], at: usize) -> Tap
 }
 
 // The words of an answer that isn't refused, and zeros behind them.
-fn put_seven(a: u64, b: u64, c: u64, d: u64, e: u64, f: u64, g: u64, out: &mut [u64; 70]) -> u64
-    ensures { λ r. ⌜ (r ≡ 0) × Told 8 r (now (out .entry)) (now (out .exit)) ⌝ }
+fn put_nine(
+    a: u64,
+    b: u64,
+    c: u64,
+    d: u64,
+    e: u64,
+    f: u64,
+    g: u64,
+    h: u64,
+    i: u64,
+    out: &mut [u64; 82],
+) -> u64
+    ensures { λ r. ⌜ (r ≡ 0) × Told 10 r (now (out .entry)) (now (out .exit)) ⌝ }
 {
     out[0] = 0;
     out[1] = a;
@@ -113,17 +129,19 @@ fn put_seven(a: u64, b: u64, c: u64, d: u64, e: u64, f: u64, g: u64, out: &mut [
     out[5] = e;
     out[6] = f;
     out[7] = g;
+    out[8] = h;
+    out[9] = i;
     0
 }
 
-fn put_time(t: Time, out: &mut [u64; 70]) -> u64
-    ensures { λ r. ⌜ (r ≡ 0) × Told 8 r (now (out .entry)) (now (out .exit)) ⌝ }
+fn put_time(t: Time, out: &mut [u64; 82]) -> u64
+    ensures { λ r. ⌜ (r ≡ 0) × Told 10 r (now (out .entry)) (now (out .exit)) ⌝ }
 {
-    put_seven(t.seconds, t.fraction, 0, 0, 0, 0, 0, out)
+    put_nine(t.seconds, t.fraction, 0, 0, 0, 0, 0, 0, 0, out)
 }
 
-fn put_moment(m: Moment, out: &mut [u64; 70]) -> u64
-    ensures { λ r. ⌜ (r ≡ momentNumber m) × Told 8 r (now (out .entry)) (now (out .exit)) ⌝ }
+fn put_moment(m: Moment, out: &mut [u64; 82]) -> u64
+    ensures { λ r. ⌜ (r ≡ momentNumber m) × Told 10 r (now (out .entry)) (now (out .exit)) ⌝ }
 {
     match m {
         Moment::At(t) => put_time(t, out),
@@ -131,8 +149,8 @@ fn put_moment(m: Moment, out: &mut [u64; 70]) -> u64
     }
 }
 
-fn put_count(c: Count, out: &mut [u64; 70]) -> u64
-    ensures { λ r. ⌜ (r ≡ countNumber c) × Told 8 r (now (out .entry)) (now (out .exit)) ⌝ }
+fn put_count(c: Count, out: &mut [u64; 82]) -> u64
+    ensures { λ r. ⌜ (r ≡ countNumber c) × Told 10 r (now (out .entry)) (now (out .exit)) ⌝ }
 {
     match c {
         Count::Of(n) => put_word(n, out),
@@ -140,8 +158,8 @@ fn put_count(c: Count, out: &mut [u64; 70]) -> u64
     }
 }
 
-fn put_truth(t: Truth, out: &mut [u64; 70]) -> u64
-    ensures { λ r. ⌜ (r ≡ truthNumber t) × Told 8 r (now (out .entry)) (now (out .exit)) ⌝ }
+fn put_truth(t: Truth, out: &mut [u64; 82]) -> u64
+    ensures { λ r. ⌜ (r ≡ truthNumber t) × Told 10 r (now (out .entry)) (now (out .exit)) ⌝ }
 {
     match t {
         Truth::Is(b) => put_bool(b, out),
@@ -149,29 +167,40 @@ fn put_truth(t: Truth, out: &mut [u64; 70]) -> u64
     }
 }
 
-fn put_word(n: u64, out: &mut [u64; 70]) -> u64
-    ensures { λ r. ⌜ (r ≡ 0) × Told 8 r (now (out .entry)) (now (out .exit)) ⌝ }
+fn put_word(n: u64, out: &mut [u64; 82]) -> u64
+    ensures { λ r. ⌜ (r ≡ 0) × Told 10 r (now (out .entry)) (now (out .exit)) ⌝ }
 {
-    put_seven(n, 0, 0, 0, 0, 0, 0, out)
+    put_nine(n, 0, 0, 0, 0, 0, 0, 0, 0, out)
 }
 
-fn put_bool(b: bool, out: &mut [u64; 70]) -> u64
-    ensures { λ r. ⌜ (r ≡ 0) × Told 8 r (now (out .entry)) (now (out .exit)) ⌝ }
+fn put_bool(b: bool, out: &mut [u64; 82]) -> u64
+    ensures { λ r. ⌜ (r ≡ 0) × Told 10 r (now (out .entry)) (now (out .exit)) ⌝ }
 {
     put_word(b as u64, out)
 }
 
-fn put_refusal(n: u8, out: &mut [u64; 70]) -> u64
-    ensures { λ r. ⌜ (r ≡ n) × Told 8 r (now (out .entry)) (now (out .exit)) ⌝ }
+fn put_refusal(n: u8, out: &mut [u64; 82]) -> u64
+    ensures { λ r. ⌜ (r ≡ n) × Told 10 r (now (out .entry)) (now (out .exit)) ⌝ }
 {
     let number = n as u64;
     out[0] = number;
     number
 }
 
-fn put_tap(tap: Tap, out: &mut [u64; 70]) -> u64
-    ensures { λ r. ⌜ (r ≡ 0) × Told 8 r (now (out .entry)) (now (out .exit)) ⌝ }
+fn put_tap(tap: Tap, out: &mut [u64; 82]) -> u64
+    ensures { λ r. ⌜ (r ≡ 0) × Told 10 r (now (out .entry)) (now (out .exit)) ⌝ }
 {
     let source = tap.source;
-    put_seven(number_of(source), tap.divide as u64, 0, 0, 0, 0, 0, out)
+    put_nine(
+        number_of(source),
+        tap.divide as u64,
+        0,
+        0,
+        0,
+        0,
+        0,
+        0,
+        0,
+        out,
+    )
 }

@@ -40,11 +40,11 @@ pub fn with_rates(state: &mut [u64; 75]) -> u64
 pub fn act(
     number: u64,
     state: &mut [u64; 75],
-    set: &[u64; 69],
+    set: &[u64; 81],
     args: &[u64; 24],
-    out: &mut [u64; 70],
+    out: &mut [u64; 82],
 ) -> u64
-    ensures { λ r. ⌜ Told 8 r (now (out .entry)) (now (out .exit)) ⌝ }
+    ensures { λ r. ⌜ Told 10 r (now (out .entry)) (now (out .exit)) ⌝ }
 {
     match number {
         0 => read(state, set, args, out),
@@ -55,8 +55,8 @@ pub fn act(
     }
 }
 
-fn read(state: &mut [u64; 75], set: &[u64; 69], args: &[u64; 24], out: &mut [u64; 70]) -> u64
-    ensures { λ r. ⌜ Told 8 r (now (out .entry)) (now (out .exit)) ⌝ }
+fn read(state: &mut [u64; 75], set: &[u64; 81], args: &[u64; 24], out: &mut [u64; 82]) -> u64
+    ensures { λ r. ⌜ Told 10 r (now (out .entry)) (now (out .exit)) ⌝ }
 {
     put_read(
         iic_of(state).read(address_of(args[2]), time_at(args, 0), clocks_of(set)),
@@ -65,8 +65,8 @@ fn read(state: &mut [u64; 75], set: &[u64; 69], args: &[u64; 24], out: &mut [u64
     )
 }
 
-fn write(state: &mut [u64; 75], set: &[u64; 69], args: &[u64; 24], out: &mut [u64; 70]) -> u64
-    ensures { λ r. ⌜ Told 8 r (now (out .entry)) (now (out .exit)) ⌝ }
+fn write(state: &mut [u64; 75], set: &[u64; 81], args: &[u64; 24], out: &mut [u64; 82]) -> u64
+    ensures { λ r. ⌜ Told 10 r (now (out .entry)) (now (out .exit)) ⌝ }
 {
     put_stepped(
         iic_of(state).write(
@@ -80,8 +80,8 @@ fn write(state: &mut [u64; 75], set: &[u64; 69], args: &[u64; 24], out: &mut [u6
     )
 }
 
-fn input_pins(state: &mut [u64; 75], set: &[u64; 69], args: &[u64; 24], out: &mut [u64; 70]) -> u64
-    ensures { λ r. ⌜ Told 8 r (now (out .entry)) (now (out .exit)) ⌝ }
+fn input_pins(state: &mut [u64; 75], set: &[u64; 81], args: &[u64; 24], out: &mut [u64; 82]) -> u64
+    ensures { λ r. ⌜ Told 10 r (now (out .entry)) (now (out .exit)) ⌝ }
 {
     put_noticed(
         iic_of(state).input_pins(args[2] != 0, args[3] != 0, time_at(args, 0), clocks_of(set)),
@@ -90,8 +90,8 @@ fn input_pins(state: &mut [u64; 75], set: &[u64; 69], args: &[u64; 24], out: &mu
     )
 }
 
-fn set_gate(state: &mut [u64; 75], set: &[u64; 69], args: &[u64; 24], out: &mut [u64; 70]) -> u64
-    ensures { λ r. ⌜ Told 8 r (now (out .entry)) (now (out .exit)) ⌝ }
+fn set_gate(state: &mut [u64; 75], set: &[u64; 81], args: &[u64; 24], out: &mut [u64; 82]) -> u64
+    ensures { λ r. ⌜ Told 10 r (now (out .entry)) (now (out .exit)) ⌝ }
 {
     put_stepped(
         iic_of(state).set_gate(args[2] != 0, time_at(args, 0), clocks_of(set)),
@@ -100,8 +100,8 @@ fn set_gate(state: &mut [u64; 75], set: &[u64; 69], args: &[u64; 24], out: &mut 
     )
 }
 
-fn advance(state: &mut [u64; 75], set: &[u64; 69], args: &[u64; 24], out: &mut [u64; 70]) -> u64
-    ensures { λ r. ⌜ Told 8 r (now (out .entry)) (now (out .exit)) ⌝ }
+fn advance(state: &mut [u64; 75], set: &[u64; 81], args: &[u64; 24], out: &mut [u64; 82]) -> u64
+    ensures { λ r. ⌜ Told 10 r (now (out .entry)) (now (out .exit)) ⌝ }
 {
     put_stepped(
         iic_of(state).advance(time_at(args, 0), clocks_of(set)),
@@ -110,20 +110,20 @@ fn advance(state: &mut [u64; 75], set: &[u64; 69], args: &[u64; 24], out: &mut [
     )
 }
 
-pub fn deadline(state: &[u64; 75], set: &[u64; 69], out: &mut [u64; 70]) -> u64
-    ensures { λ r. ⌜ Told 8 r (now (out .entry)) (now (out .exit)) ⌝ }
+pub fn deadline(state: &[u64; 75], set: &[u64; 81], out: &mut [u64; 82]) -> u64
+    ensures { λ r. ⌜ Told 10 r (now (out .entry)) (now (out .exit)) ⌝ }
 {
     put_deadline(iic_of(state).deadline(clocks_of(set)), out)
 }
 
-pub fn validate(state: &[u64; 75], args: &[u64; 24], out: &mut [u64; 70]) -> u64
-    ensures { λ r. ⌜ Told 8 r (now (out .entry)) (now (out .exit)) ⌝ }
+pub fn validate(state: &[u64; 75], args: &[u64; 24], out: &mut [u64; 82]) -> u64
+    ensures { λ r. ⌜ Told 10 r (now (out .entry)) (now (out .exit)) ⌝ }
 {
     put_refusal(iic_of(state).validate(time_at(args, 0)), out)
 }
 
 // What else can be asked without a clock: the eight registers, the lines, both interrupts.
-pub fn observe(state: &[u64; 75], args: &[u64; 24], out: &mut [u64; 70]) -> u64
+pub fn observe(state: &[u64; 75], args: &[u64; 24], out: &mut [u64; 82]) -> u64
     ensures { λ r. ⌜ (r ≡ 0) × Told 14 r (now (out .entry)) (now (out .exit)) ⌝ }
 {
     let iic = iic_of(state);
@@ -139,8 +139,8 @@ fn address_of(n: u64) -> u16 {
     (n % 65536) as u16
 }
 
-fn put_byte(b: Byte, out: &mut [u64; 70]) -> u64
-    ensures { λ r. ⌜ (r ≡ byteNumber b) × Told 8 r (now (out .entry)) (now (out .exit)) ⌝ }
+fn put_byte(b: Byte, out: &mut [u64; 82]) -> u64
+    ensures { λ r. ⌜ (r ≡ byteNumber b) × Told 10 r (now (out .entry)) (now (out .exit)) ⌝ }
 {
     match b {
         Byte::Is(value) => put_word(value as u64, out),
@@ -148,8 +148,8 @@ fn put_byte(b: Byte, out: &mut [u64; 70]) -> u64
     }
 }
 
-fn put_ended(ended: Ended, out: &mut [u64; 70]) -> u64
-    ensures { λ r. ⌜ (r ≡ endedNumber ended) × Told 8 r (now (out .entry)) (now (out .exit)) ⌝ }
+fn put_ended(ended: Ended, out: &mut [u64; 82]) -> u64
+    ensures { λ r. ⌜ (r ≡ endedNumber ended) × Told 10 r (now (out .entry)) (now (out .exit)) ⌝ }
 {
     match ended {
         Ended::Finished => put_refusal(0, out),
@@ -157,8 +157,8 @@ fn put_ended(ended: Ended, out: &mut [u64; 70]) -> u64
     }
 }
 
-fn put_stepped(stepped: Stepped, state: &mut [u64; 75], out: &mut [u64; 70]) -> u64
-    ensures { λ r. ⌜ (r ≡ endedNumber (stepped .ended)) × Told 8 r (now (out .entry)) (now (out .exit)) ⌝ }
+fn put_stepped(stepped: Stepped, state: &mut [u64; 75], out: &mut [u64; 82]) -> u64
+    ensures { λ r. ⌜ (r ≡ endedNumber (stepped .ended)) × Told 10 r (now (out .entry)) (now (out .exit)) ⌝ }
 {
     let ended = stepped.ended;
     put_iic(stepped.state, state);
@@ -170,16 +170,16 @@ fn shown(iic: Iic, address: u64, on: u64) -> u64 {
     iic.peek(address_of(std::num::wrapping_add_u64(address, on))) as u64
 }
 
-fn put_read(done: ReadOut, state: &mut [u64; 75], out: &mut [u64; 70]) -> u64
-    ensures { λ r. ⌜ (r ≡ byteNumber (done .answer)) × Told 8 r (now (out .entry)) (now (out .exit)) ⌝ }
+fn put_read(done: ReadOut, state: &mut [u64; 75], out: &mut [u64; 82]) -> u64
+    ensures { λ r. ⌜ (r ≡ byteNumber (done .answer)) × Told 10 r (now (out .entry)) (now (out .exit)) ⌝ }
 {
     let answer = done.answer;
     put_iic(done.state, state);
     put_byte(answer, out)
 }
 
-fn put_noticed(done: Noticed, state: &mut [u64; 75], out: &mut [u64; 70]) -> u64
-    ensures { λ r. ⌜ (r ≡ truthNumber (done .answer)) × Told 8 r (now (out .entry)) (now (out .exit)) ⌝ }
+fn put_noticed(done: Noticed, state: &mut [u64; 75], out: &mut [u64; 82]) -> u64
+    ensures { λ r. ⌜ (r ≡ truthNumber (done .answer)) × Told 10 r (now (out .entry)) (now (out .exit)) ⌝ }
 {
     let answer = done.answer;
     put_iic(done.state, state);
@@ -194,7 +194,7 @@ fn put_shown(
     driven: u64,
     scl: u64,
     sda: u64,
-    out: &mut [u64; 70],
+    out: &mut [u64; 82],
 ) -> u64
     ensures { λ r. ⌜ (r ≡ 0) × Told 14 r (now (out .entry)) (now (out .exit)) ⌝ }
 {

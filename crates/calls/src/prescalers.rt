@@ -7,8 +7,8 @@ use clocks::prescaler::Divider;
 use clocks::prescaler::PrescalerS;
 use clocks::prescaler::PrescalerW;
 
-pub(crate) fn call(number: u64, args: &[u64; 24], out: &mut [u64; 70]) -> u64
-    ensures { λ r. ⌜ Told 8 r (now (out .entry)) (now (out .exit)) ⌝ }
+pub(crate) fn call(number: u64, args: &[u64; 24], out: &mut [u64; 82]) -> u64
+    ensures { λ r. ⌜ Told 10 r (now (out .entry)) (now (out .exit)) ⌝ }
 {
     match number {
         10 => put_count(

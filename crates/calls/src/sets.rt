@@ -1,6 +1,8 @@
 // The clock sets.
 ghost use Prim.Native.Nat.{_≤_};
 ghost use Rattle.calls.specs.Told.{Told};
+ghost use Rattle.clocks.specs.Moves.{moveSystem};
+ghost use mathlib.Core.Path.{_≡_};
 use super::prescalers::divider_of;
 use super::put_bool;
 use super::put_count;
@@ -15,8 +17,8 @@ use clocks::prescaler::PrescalerW;
 use time::Clock;
 use time::Time;
 
-pub(crate) fn call(number: u64, set: &[u64; 69], args: &[u64; 24], out: &mut [u64; 70]) -> u64
-    ensures { λ r. ⌜ Told 8 r (now (out .entry)) (now (out .exit)) ⌝ }
+pub(crate) fn call(number: u64, set: &[u64; 81], args: &[u64; 24], out: &mut [u64; 82]) -> u64
+    ensures { λ r. ⌜ Told 10 r (now (out .entry)) (now (out .exit)) ⌝ }
 {
     let clocks = clocks_of(set);
     match number {
@@ -34,8 +36,19 @@ pub(crate) fn call(number: u64, set: &[u64; 69], args: &[u64; 24], out: &mut [u6
     }
 }
 
-fn set_time(set: &[u64; 69], at: usize) -> Time
-    requires { ⌜ at ≤ 67 ⌝ }
+// A set with the start of its system clock moved up, which is written as it was where the move is refused.
+pub fn advance(clocks: Clocks, edges: u64, out: &mut [u64; 82]) -> u64
+    ensures { λ r. ⌜ r ≡ moveSystem edges clocks .refusal ⌝ }
+{
+    let moved = clocks.advance_system(edges);
+    let number = moved.refusal as u64;
+    out[0] = number;
+    put_clocks(moved.clocks, out);
+    number
+}
+
+fn set_time(set: &[u64; 81], at: usize) -> Time
+    requires { ⌜ at ≤ 79 ⌝ }
 {
     Time {
         seconds: set[at],
@@ -43,45 +56,30 @@ fn set_time(set: &[u64; 69], at: usize) -> Time
     }
 }
 
-fn set_domain(set: &[u64; 69], at: usize) -> Domain
-    requires { ⌜ at ≤ 62 ⌝ }
+fn set_domain(set: &[u64; 81], at: usize) -> Domain
+    requires { ⌜ at ≤ 72 ⌝ }
 {
     Domain {
         clock: Clock {
             start: set_time(set, at),
             numerator: set[at + 2],
             denominator: set[at + 3],
+            ordinal: set[at + 4],
+            fraction: set[at + 5],
         },
-        running: set[at + 4] != 0,
-        held_at: set_time(set, at + 5),
+        running: set[at + 6] != 0,
+        held_at: set_time(set, at + 7),
     }
 }
 
-fn set_prescaler_s(set: &[u64; 69]) -> PrescalerS {
+fn set_prescaler_s(set: &[u64; 81]) -> PrescalerS {
     PrescalerS {
-        divider: divider_of(set[42], set[43], set[44]),
+        divider: divider_of(set[54], set[55], set[56]),
         emitted: [
-            set[45],
-            set[46],
-            set[47],
-            set[48],
-            set[49],
-            set[50],
-            set[51],
-            set[52],
-            set[53],
-            set[54],
-            set[55],
-            set[56],
             set[57],
-        ],
-    }
-}
-
-fn set_prescaler_w(set: &[u64; 69]) -> PrescalerW {
-    PrescalerW {
-        divider: divider_of(set[58], set[59], set[60]),
-        emitted: [
+            set[58],
+            set[59],
+            set[60],
             set[61],
             set[62],
             set[63],
@@ -90,25 +88,42 @@ fn set_prescaler_w(set: &[u64; 69]) -> PrescalerW {
             set[66],
             set[67],
             set[68],
+            set[69],
         ],
     }
 }
 
-pub(crate) fn clocks_of(set: &[u64; 69]) -> Clocks {
+fn set_prescaler_w(set: &[u64; 81]) -> PrescalerW {
+    PrescalerW {
+        divider: divider_of(set[70], set[71], set[72]),
+        emitted: [
+            set[73],
+            set[74],
+            set[75],
+            set[76],
+            set[77],
+            set[78],
+            set[79],
+            set[80],
+        ],
+    }
+}
+
+pub fn clocks_of(set: &[u64; 81]) -> Clocks {
     Clocks {
         system: set_domain(set, 0),
-        cpu: set_domain(set, 7),
-        watch: set_domain(set, 14),
-        on_chip: set_domain(set, 21),
-        oscillator: set_domain(set, 28),
-        subclock: set_domain(set, 35),
+        cpu: set_domain(set, 9),
+        watch: set_domain(set, 18),
+        on_chip: set_domain(set, 27),
+        oscillator: set_domain(set, 36),
+        subclock: set_domain(set, 45),
         prescaler_s: set_prescaler_s(set),
         prescaler_w: set_prescaler_w(set),
     }
 }
 
-fn put_domain(d: Domain, out: &mut [u64; 70], at: usize)
-    requires { ⌜ at ≤ 63 ⌝ }
+fn put_domain(d: Domain, out: &mut [u64; 82], at: usize)
+    requires { ⌜ at ≤ 73 ⌝ }
 {
     let clock = d.clock;
     let start = clock.start;
@@ -116,56 +131,58 @@ fn put_domain(d: Domain, out: &mut [u64; 70], at: usize)
     out[at + 1] = start.fraction;
     out[at + 2] = clock.numerator;
     out[at + 3] = clock.denominator;
-    out[at + 4] = d.running as u64;
+    out[at + 4] = clock.ordinal;
+    out[at + 5] = clock.fraction;
+    out[at + 6] = d.running as u64;
     let held = d.held_at;
-    out[at + 5] = held.seconds;
-    out[at + 6] = held.fraction;
+    out[at + 7] = held.seconds;
+    out[at + 8] = held.fraction;
 }
 
-fn put_prescaler_s(p: PrescalerS, out: &mut [u64; 70]) {
+fn put_prescaler_s(p: PrescalerS, out: &mut [u64; 82]) {
     let divider = p.divider;
-    out[43] = divider.anchor;
-    out[44] = divider.phase as u64;
-    out[45] = divider.running as u64;
+    out[55] = divider.anchor;
+    out[56] = divider.phase as u64;
+    out[57] = divider.running as u64;
     let emitted = p.emitted;
-    out[46] = emitted[0];
-    out[47] = emitted[1];
-    out[48] = emitted[2];
-    out[49] = emitted[3];
-    out[50] = emitted[4];
-    out[51] = emitted[5];
-    out[52] = emitted[6];
-    out[53] = emitted[7];
-    out[54] = emitted[8];
-    out[55] = emitted[9];
-    out[56] = emitted[10];
-    out[57] = emitted[11];
-    out[58] = emitted[12];
+    out[58] = emitted[0];
+    out[59] = emitted[1];
+    out[60] = emitted[2];
+    out[61] = emitted[3];
+    out[62] = emitted[4];
+    out[63] = emitted[5];
+    out[64] = emitted[6];
+    out[65] = emitted[7];
+    out[66] = emitted[8];
+    out[67] = emitted[9];
+    out[68] = emitted[10];
+    out[69] = emitted[11];
+    out[70] = emitted[12];
 }
 
-fn put_prescaler_w(p: PrescalerW, out: &mut [u64; 70]) {
+fn put_prescaler_w(p: PrescalerW, out: &mut [u64; 82]) {
     let divider = p.divider;
-    out[59] = divider.anchor;
-    out[60] = divider.phase as u64;
-    out[61] = divider.running as u64;
+    out[71] = divider.anchor;
+    out[72] = divider.phase as u64;
+    out[73] = divider.running as u64;
     let emitted = p.emitted;
-    out[62] = emitted[0];
-    out[63] = emitted[1];
-    out[64] = emitted[2];
-    out[65] = emitted[3];
-    out[66] = emitted[4];
-    out[67] = emitted[5];
-    out[68] = emitted[6];
-    out[69] = emitted[7];
+    out[74] = emitted[0];
+    out[75] = emitted[1];
+    out[76] = emitted[2];
+    out[77] = emitted[3];
+    out[78] = emitted[4];
+    out[79] = emitted[5];
+    out[80] = emitted[6];
+    out[81] = emitted[7];
 }
 
-pub(crate) fn put_clocks(clocks: Clocks, out: &mut [u64; 70]) {
+pub(crate) fn put_clocks(clocks: Clocks, out: &mut [u64; 82]) {
     put_domain(clocks.system, out, 1);
-    put_domain(clocks.cpu, out, 8);
-    put_domain(clocks.watch, out, 15);
-    put_domain(clocks.on_chip, out, 22);
-    put_domain(clocks.oscillator, out, 29);
-    put_domain(clocks.subclock, out, 36);
+    put_domain(clocks.cpu, out, 10);
+    put_domain(clocks.watch, out, 19);
+    put_domain(clocks.on_chip, out, 28);
+    put_domain(clocks.oscillator, out, 37);
+    put_domain(clocks.subclock, out, 46);
     put_prescaler_s(clocks.prescaler_s, out);
     put_prescaler_w(clocks.prescaler_w, out);
 }

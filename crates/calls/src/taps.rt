@@ -3,8 +3,8 @@ ghost use mathlib.Core.Path.{_≡_};
 ghost use Rattle.calls.specs.Told.{Told, timeAt, frequenciesAt};
 ghost use Rattle.clocks.specs.Clocks.{newClocks};
 use super::half_word;
+use super::put_nine;
 use super::put_refusal;
-use super::put_seven;
 use super::put_tap;
 use super::sets::put_clocks;
 use super::tap_at;
@@ -13,8 +13,8 @@ use clocks::Clocks;
 use clocks::Frequencies;
 use clocks::tap::Tap;
 
-pub(crate) fn call(number: u64, args: &[u64; 24], out: &mut [u64; 70]) -> u64
-    ensures { λ r. ⌜ Told 8 r (now (out .entry)) (now (out .exit)) ⌝ }
+pub(crate) fn call(number: u64, args: &[u64; 24], out: &mut [u64; 82]) -> u64
+    ensures { λ r. ⌜ Told 10 r (now (out .entry)) (now (out .exit)) ⌝ }
 {
     match number {
         23 => put_tap(Tap::cpu(), out),
@@ -29,7 +29,7 @@ pub(crate) fn call(number: u64, args: &[u64; 24], out: &mut [u64; 70]) -> u64
 }
 
 // A new clock set, which is written where it is refused, too.
-pub fn new_clocks(args: &[u64; 24], out: &mut [u64; 70]) -> u64
+pub fn new_clocks(args: &[u64; 24], out: &mut [u64; 82]) -> u64
     ensures { λ r. ⌜ r ≡ newClocks (timeAt (now (args .entry)) 0) (frequenciesAt (now (args .entry))) .refusal ⌝ }
 {
     let made = Clocks::new(time_at(args, 0), frequencies_at(args));
@@ -49,8 +49,8 @@ fn frequencies_at(args: &[u64; 24]) -> Frequencies
     }
 }
 
-fn put_frequencies(f: Frequencies, out: &mut [u64; 70]) -> u64
-    ensures { λ r. ⌜ (r ≡ 0) × Told 8 r (now (out .entry)) (now (out .exit)) ⌝ }
+fn put_frequencies(f: Frequencies, out: &mut [u64; 82]) -> u64
+    ensures { λ r. ⌜ (r ≡ 0) × Told 10 r (now (out .entry)) (now (out .exit)) ⌝ }
 {
-    put_seven(f.main_hz, f.watch_hz, f.on_chip_hz, 0, 0, 0, 0, out)
+    put_nine(f.main_hz, f.watch_hz, f.on_chip_hz, 0, 0, 0, 0, 0, 0, out)
 }

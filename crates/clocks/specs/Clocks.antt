@@ -31,7 +31,7 @@ defaultFrequencies = record { «main_hz» = 3686400; «watch_hz» = 32768; «on_
 
 -- a domain that runs from now on at hz / divide Hz
 abbrev pub domainAt : Time → ℕ → ℕ → Domain
-domainAt now hz divide = runningFrom now (record { start = now; numerator = hz; denominator = divide })
+domainAt now hz divide = runningFrom now (record { start = now; numerator = hz; denominator = divide; ordinal = 0; fraction = 0 })
 
 -- the system, the CPU and the oscillator at the main frequency, the subclock at an eighth of the watch's
 unfoldable pub clockSet : Time → Frequencies → Clocks
@@ -46,7 +46,7 @@ clockSet now f = record {
   «prescaler_w» = freshW;
 }
 
--- a clock of the set holds a zero frequency or denominator
+-- a clock of the set holds a zero frequency or denominator, or a fraction that isn't below its numerator
 unfoldable pub hasZero : Clocks → Bool
 hasZero k =
     zeroIn (k .system .clock) || zeroIn (k .cpu .clock) || zeroIn (k .watch .clock) || zeroIn (k .«on_chip» .clock)

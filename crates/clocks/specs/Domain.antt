@@ -42,10 +42,10 @@ unfoldable pub domainTime : Domain → Time → Moment
 domainTime d now = cond (zeroIn (d .clock)) (Unset 1) (At (shown d now))
 
 -- `Domain::ticks`: a running domain counts the edges at or before now, those before the next unit of time; at the last time, which has
--- none after it, only those before it. A stopped one counts none.
+-- none after it, only those before it. A stopped one counts its ordinal.
 unfoldable pub domainTicks : Domain → Time → Count
 domainTicks d now =
-    cond (zeroIn (d .clock)) (Refused 1) (cond (d .running) (edgesBeforeOf (d .clock) (nextTime now)) (Of 0))
+    cond (zeroIn (d .clock)) (Refused 1) (cond (d .running) (edgesBeforeOf (d .clock) (nextTime now)) (Of (d .clock .ordinal)))
 
 -- the last time, 2 ^ 128 - 1
 abbrev pub lastTime : Time

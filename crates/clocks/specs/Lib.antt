@@ -7,3 +7,4 @@ pub mod Half
 pub mod Wait
 pub mod System
 pub mod SystemLaws
+pub mod Moves

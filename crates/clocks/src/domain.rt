@@ -124,7 +124,7 @@ impl Domain {
         if self.running {
             self.clock.edges_before(now.next())
         } else {
-            Count::Of(0)
+            Count::Of(self.clock.ordinal)
         }
     }
 

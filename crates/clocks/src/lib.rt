@@ -8,6 +8,7 @@ ghost use Rattle.clocks.specs.Half.{halfTicks, halfEdge};
 pub mod counts;
 pub mod domain;
 pub mod later;
+pub mod moves;
 pub mod prescaler;
 pub mod system;
 pub mod tap;
@@ -55,7 +56,7 @@ pub struct Clocks {
     pub prescaler_w: PrescalerW,
 }
 
-// A clock set, and refusal 1 where it holds a zero, 0 otherwise.
+// A clock set, and refusal 1 where it holds a zero, 0 otherwise; for a move of the set also 7.
 pub struct NewClocks {
     pub refusal: u8,
     pub clocks: Clocks,
@@ -83,6 +84,8 @@ fn domain_at(now: Time, hz: u64, divide: u64) -> Domain
             start: now,
             numerator: hz,
             denominator: divide,
+            ordinal: 0,
+            fraction: 0,
         },
     )
 }
@@ -124,7 +127,7 @@ impl Clocks {
         }
     }
 
-    // Whether some clock of the set holds a zero frequency or denominator.
+    // Whether some clock of the set holds a zero frequency or denominator, or a fraction that isn't below its numerator.
     pub fn has_zero(self) -> bool
         ensures { λ r. ⌜ r ≡ hasZero self ⌝ }
     {

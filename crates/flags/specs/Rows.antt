@@ -50,7 +50,7 @@ use Rattle.flags.specs.StatusWrites.{Latest, noRead, showed, before, rea
 -- a clock with a zero: every call that gets the set is refused 1
 abbrev zeroed : Clocks
 zeroed = record {
-  system = record { clock = record { start = at 0; numerator = 0; denominator = 1 }; running = false; «held_at» = at 0 };
+  system = record { clock = record { start = at 0; numerator = 0; denominator = 1; ordinal = 0; fraction = 0 }; running = false; «held_at» = at 0 };
   cpu = still .cpu;
   watch = still .watch;
   «on_chip» = still .«on_chip»;

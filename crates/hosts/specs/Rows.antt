@@ -43,7 +43,7 @@ at n = record { seconds = n; fraction = 0 }
 
 -- 1 Hz from a time on
 abbrev pub domain : Bool → Time → Domain
-domain running t = record { clock = record { start = t; numerator = 1; denominator = 1 }; running = running; «held_at» = at 0 }
+domain running t = record { clock = record { start = t; numerator = 1; denominator = 1; ordinal = 0; fraction = 0 }; running = running; «held_at» = at 0 }
 
 -- a clock set of six such domains
 abbrev pub clockSet : Bool → Time → Clocks

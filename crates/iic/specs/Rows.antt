@@ -61,7 +61,7 @@ at f = record { seconds = 0; fraction = f }
 
 -- frequency 3, start 0
 abbrev third : Clock
-third = record { start = at 0; numerator = 3; denominator = 1 }
+third = record { start = at 0; numerator = 3; denominator = 1; ordinal = 0; fraction = 0 }
 
 -- the count of a running domain
 abbrev ticksAt : ℕ → Count

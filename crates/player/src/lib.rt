@@ -127,6 +127,8 @@ pub fn trace_system() -> Domain
             start,
             numerator: Frequencies::default().main_hz,
             denominator: 1,
+            ordinal: 0,
+            fraction: 0,
         },
         running: true,
         held_at: start,

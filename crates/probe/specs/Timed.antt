@@ -14,7 +14,7 @@ timeFrom seconds fraction = record { seconds = seconds; fraction = fraction }
 
 abbrev pub clockOf : ℕ → ℕ → ℕ → ℕ → Clock
 clockOf seconds fraction numerator denominator =
-    record { start = timeFrom seconds fraction; numerator = numerator; denominator = denominator }
+    record { start = timeFrom seconds fraction; numerator = numerator; denominator = denominator; ordinal = 0; fraction = 0 }
 
 -- seconds, then the fraction
 abbrev pub momentIn : Moment → List ℕ → List ℕ

@@ -16,6 +16,8 @@ fn clock_of(seconds: u64, fraction: u64, numerator: u64, denominator: u64) -> Cl
         start: Time { seconds, fraction },
         numerator,
         denominator,
+        ordinal: 0,
+        fraction: 0,
     }
 }
 

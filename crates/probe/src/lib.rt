@@ -11,32 +11,42 @@ pub mod bench;
 #[no_mangle]
 pub extern "C" fn probe_answer(
     number: u64,
-    set: &[u64; 69],
+    set: &[u64; 81],
     args: &[u64; 24],
-    out: &mut [u64; 70],
+    out: &mut [u64; 82],
 ) -> u64
-    ensures { λ r. ⌜ Told 8 r (now (out .entry)) (now (out .exit)) ⌝ }
+    ensures { λ r. ⌜ Told 10 r (now (out .entry)) (now (out .exit)) ⌝ }
 {
     calls::answer(number, set, args, out)
 }
 
 // A new clock set.
 #[no_mangle]
-pub extern "C" fn probe_new_clocks(args: &[u64; 24], out: &mut [u64; 70]) -> u64
+pub extern "C" fn probe_new_clocks(args: &[u64; 24], out: &mut [u64; 82]) -> u64
     ensures { λ r. ⌜ r ≡ newClocks (timeAt (now (args .entry)) 0) (frequenciesAt (now (args .entry))) .refusal ⌝ }
 {
     calls::taps::new_clocks(args, out)
+}
+
+// The set with the start of its system clock moved up: `calls::sets::advance` says which number is returned.
+#[no_mangle]
+pub extern "C" fn probe_advance_system(
+    set: &[u64; 81],
+    args: &[u64; 24],
+    out: &mut [u64; 82],
+) -> u64 {
+    calls::sets::advance(calls::sets::clocks_of(set), args[0], out)
 }
 
 // A call that changes a wait.
 #[no_mangle]
 pub extern "C" fn probe_turn(
     number: u64,
-    set: &[u64; 69],
+    set: &[u64; 81],
     args: &[u64; 24],
-    out: &mut [u64; 70],
+    out: &mut [u64; 82],
 ) -> u64
-    ensures { λ r. ⌜ Written 8 r (now (out .entry)) (now (out .exit)) ⌝ }
+    ensures { λ r. ⌜ Written 10 r (now (out .entry)) (now (out .exit)) ⌝ }
 {
     calls::clock_waits::turn(number, set, args, out)
 }
@@ -62,18 +72,18 @@ pub extern "C" fn probe_iic_with_rates(state: &mut [u64; 75]) -> u64
 pub extern "C" fn probe_iic_act(
     number: u64,
     state: &mut [u64; 75],
-    set: &[u64; 69],
+    set: &[u64; 81],
     args: &[u64; 24],
-    out: &mut [u64; 70],
+    out: &mut [u64; 82],
 ) -> u64
-    ensures { λ r. ⌜ Told 8 r (now (out .entry)) (now (out .exit)) ⌝ }
+    ensures { λ r. ⌜ Told 10 r (now (out .entry)) (now (out .exit)) ⌝ }
 {
     calls::peripheral::act(number, state, set, args, out)
 }
 
 #[no_mangle]
-pub extern "C" fn probe_iic_deadline(state: &[u64; 75], set: &[u64; 69], out: &mut [u64; 70]) -> u64
-    ensures { λ r. ⌜ Told 8 r (now (out .entry)) (now (out .exit)) ⌝ }
+pub extern "C" fn probe_iic_deadline(state: &[u64; 75], set: &[u64; 81], out: &mut [u64; 82]) -> u64
+    ensures { λ r. ⌜ Told 10 r (now (out .entry)) (now (out .exit)) ⌝ }
 {
     calls::peripheral::deadline(state, set, out)
 }
@@ -82,16 +92,16 @@ pub extern "C" fn probe_iic_deadline(state: &[u64; 75], set: &[u64; 69], out: &m
 pub extern "C" fn probe_iic_validate(
     state: &[u64; 75],
     args: &[u64; 24],
-    out: &mut [u64; 70],
+    out: &mut [u64; 82],
 ) -> u64
-    ensures { λ r. ⌜ Told 8 r (now (out .entry)) (now (out .exit)) ⌝ }
+    ensures { λ r. ⌜ Told 10 r (now (out .entry)) (now (out .exit)) ⌝ }
 {
     calls::peripheral::validate(state, args, out)
 }
 
 // What else can be asked of the peripheral.
 #[no_mangle]
-pub extern "C" fn probe_iic_observe(state: &[u64; 75], args: &[u64; 24], out: &mut [u64; 70]) -> u64
+pub extern "C" fn probe_iic_observe(state: &[u64; 75], args: &[u64; 24], out: &mut [u64; 82]) -> u64
     ensures { λ r. ⌜ (r ≡ 0) × Told 14 r (now (out .entry)) (now (out .exit)) ⌝ }
 {
     calls::peripheral::observe(state, args, out)

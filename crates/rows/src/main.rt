@@ -123,6 +123,8 @@ fn exact() {
         start: at(0),
         numerator: 3,
         denominator: 1,
+        ordinal: 0,
+        fraction: 0,
     };
     match third.after(3) {
         Moment::At(t) => moment(t),

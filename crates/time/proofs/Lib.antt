@@ -1,3 +1,4 @@
 pub mod Orders
 pub mod Sums
 pub mod Edges
+pub mod Moves

@@ -2,3 +2,4 @@ pub mod Time
 pub mod Clock
 pub mod Laws
 pub mod Truths
+pub mod MoveLaws

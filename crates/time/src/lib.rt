@@ -1,8 +1,8 @@
 // Time in seconds and units of 2^-64 s, and clocks of a rational frequency.
 ghost use mathlib.Core.Path.{_≡_};
-ghost use Prim.Native.Nat.{_+_, _-_, _*_, _/_, _^_, _≤_, _<_, min};
+ghost use Prim.Native.Nat.{_+_, _-_, _*_, _/_, _%_, _^_, _≤_, _<_, min};
 ghost use Rattle.time.specs.Time.{timeOf, timeFrom, momentOf, earlier, sameTime, sumOf, sinceOf, nextTime, midway};
-ghost use Rattle.time.specs.Clock.{edgesBefore, zeroIn, newClock, afterOf, edgesBeforeOf};
+ghost use Rattle.time.specs.Clock.{edgesBefore, zeroIn, newClock, afterOf, edgesBeforeOf, span, moveOf};
 ghost use Rattle.words.specs.Words.{valueOf};
 use words::Wide;
 use words::divide;
@@ -10,7 +10,7 @@ use words::product;
 use words::product_by;
 use words::scaled_quotient;
 use words::sum;
-use words::upper_of_one_less;
+use words::upper_of_less;
 
 // Whole seconds, and a fraction of a second in units of 2^-64 s.
 pub struct Time {
@@ -30,11 +30,14 @@ pub enum Count {
     Refused(u8),
 }
 
-// A clock of numerator / denominator Hz whose edge 0 is its start.
+// A clock of numerator / denominator Hz. Its start is the edge of the ordinal; the fraction, in parts of 1 / numerator of a unit of
+// time, is what that edge's time left over when it was rounded down.
 pub struct Clock {
     pub start: Time,
     pub numerator: u64,
     pub denominator: u64,
+    pub ordinal: u64,
+    pub fraction: u64,
 }
 
 // A clock, or the number of its refusal.
@@ -131,16 +134,17 @@ impl Time {
         }
     }
 
-    // How many whole periods of denominator / numerator seconds end before this time has passed, at most 2^64 - 1.
-    fn periods(self, numerator: u64, denominator: u64) -> u64
+    // How many whole periods of denominator / numerator seconds end before this time has passed, where part / numerator of a unit
+    // had passed before, at most 2^64 - 1.
+    fn periods(self, numerator: u64, denominator: u64, part: u64) -> u64
         requires { ⌜ 0 < denominator ⌝ }
-        ensures { λ r. ⌜ r ≡ min ((timeOf self * numerator - 1) / 2 ^ 64 / denominator) (2 ^ 64 - 1) ⌝ }
+        ensures { λ r. ⌜ r ≡ min ((timeOf self * numerator - 1 - part) / 2 ^ 64 / denominator) (2 ^ 64 - 1) ⌝ }
     {
         let since = Wide {
             high: self.seconds,
             low: self.fraction,
         };
-        let scaled = upper_of_one_less(product_by(since, numerator));
+        let scaled = upper_of_less(product_by(since, numerator), part);
         if denominator <= scaled.high {
             return u64::MAX;
         }
@@ -179,13 +183,25 @@ fn periods_of(edges: u64, denominator: u64) -> Wide
     product(edges, denominator)
 }
 
-// The time of so many periods of 1 / numerator s after a start, in words, or 7: the whole seconds, and what they leave of a second.
-fn edge_of(seconds: u64, fraction: u64, numerator: u64, high: u64, low: u64) -> Moment
+// The sum, at most 2^64 - 1.
+fn capped_sum(a: u64, b: u64) -> u64
+    ensures { λ r. ⌜ r ≡ min (a + b) (2 ^ 64 - 1) ⌝ }
+{
+    let total = sum(a, b);
+    if total.high != 0 {
+        return u64::MAX;
+    }
+    total.low
+}
+
+// The time of so many periods of 1 / numerator s, in words, and of part / numerator of a unit after a start, or 7: the whole seconds,
+// and what they leave of a second.
+fn edge_of(seconds: u64, fraction: u64, numerator: u64, high: u64, low: u64, part: u64) -> Moment
     requires { ⌜ 0 < numerator ⌝ }
-    ensures { λ r. ⌜ r ≡ momentOf (seconds * 2 ^ 64 + fraction + (high * 2 ^ 64 + low) * 2 ^ 64 / numerator) ⌝ }
+    ensures { λ r. ⌜ r ≡ momentOf (seconds * 2 ^ 64 + fraction + ((high * 2 ^ 64 + low) * 2 ^ 64 + part) / numerator) ⌝ }
 {
     let start = Time { seconds, fraction };
-    if high == 0 {
+    if (high == 0) & (part == 0) {
         let since = scaled_quotient(low, numerator);
         return start.checked_add(Time {
             seconds: since.high,
@@ -198,13 +214,26 @@ fn edge_of(seconds: u64, fraction: u64, numerator: u64, high: u64, low: u64) -> 
     }
     let left = Wide {
         high: whole.remainder,
-        low: 0,
+        low: part,
     };
-    let part = divide(left, numerator);
+    let rest = divide(left, numerator);
     start.checked_add(Time {
         seconds: whole.quotient.low,
-        fraction: part.quotient.low,
+        fraction: rest.quotient.low,
     })
+}
+
+// What so many periods of 1 / numerator s and part / numerator of a unit leave over, in parts of 1 / numerator of a unit.
+fn left_over(numerator: u64, periods: Wide, part: u64) -> u64
+    requires { ⌜ 0 < numerator ⌝ }
+    ensures { λ r. ⌜ r ≡ (valueOf periods * 2 ^ 64 + part) % numerator ⌝ }
+{
+    let whole = divide(periods, numerator);
+    let left = Wide {
+        high: whole.remainder,
+        low: part,
+    };
+    divide(left, numerator).remainder
 }
 
 impl Clock {
@@ -216,6 +245,8 @@ impl Clock {
             start,
             numerator,
             denominator,
+            ordinal: 0,
+            fraction: 0,
         };
         let zero = clock.has_zero();
         if zero {
@@ -224,14 +255,14 @@ impl Clock {
         NewClock::Made(clock)
     }
 
-    // Whether the numerator or the denominator is zero.
+    // Whether the numerator or the denominator is zero, or the fraction not below the numerator, as none is where that is zero.
     pub fn has_zero(self) -> bool
         ensures { λ r. ⌜ r ≡ zeroIn self ⌝ }
     {
-        (self.numerator == 0) | (self.denominator == 0)
+        (self.denominator == 0) | (self.numerator <= self.fraction)
     }
 
-    // The time of the edge of that number after the start; refusal 1 for a zero in the clock, 7 past the last time.
+    // The time of the edge of that number; refusal 1 as `has_zero` has it, 8 below the ordinal, 7 past the last time.
     pub fn after(self, edges: u64) -> Moment
         ensures { λ r. ⌜ r ≡ afterOf self edges ⌝ }
     {
@@ -239,18 +270,23 @@ impl Clock {
         if zero {
             return Moment::Refused(1);
         }
+        let below = edges < self.ordinal;
+        if below {
+            return Moment::Refused(8);
+        }
         let start = self.start;
-        let periods = periods_of(edges, self.denominator);
+        let periods = periods_of(edges - self.ordinal, self.denominator);
         edge_of(
             start.seconds,
             start.fraction,
             self.numerator,
             periods.high,
             periods.low,
+            self.fraction,
         )
     }
 
-    // How many edges after the start are earlier than the limit, at most 2^64 - 1.
+    // The number of the last edge earlier than the limit, and the ordinal where none is, at most 2^64 - 1.
     fn count(self, limit: Time) -> u64
         requires { ⌜ (0 < self .numerator) × (0 < self .denominator) ⌝ }
         ensures { λ r. ⌜ r ≡ edgesBefore self (timeOf limit) ⌝ }
@@ -258,12 +294,14 @@ impl Clock {
         let start = self.start;
         let late = start.before(limit);
         if late {
-            return limit.since(start).periods(self.numerator, self.denominator);
+            let since = limit.since(start);
+            let more = since.periods(self.numerator, self.denominator, self.fraction);
+            return capped_sum(self.ordinal, more);
         }
-        0
+        self.ordinal
     }
 
-    // How many edges after the start are earlier than the limit, at most 2^64 - 1; refusal 1 for a zero in the clock.
+    // The ordinal and how many edges after the start are earlier than the limit, at most 2^64 - 1; refusal 1 as `has_zero` has it.
     pub fn edges_before(self, limit: Time) -> Count
         ensures { λ r. ⌜ r ≡ edgesBeforeOf self limit ⌝ }
     {
@@ -272,5 +310,35 @@ impl Clock {
             return Count::Refused(1);
         }
         Count::Of(self.count(limit))
+    }
+
+    // The clock with its start moved up by so many edges; refusal 1 as `has_zero` has it, 7 where the new start or ordinal leaves its
+    // width.
+    pub fn advance(self, edges: u64) -> NewClock
+        ensures { λ r. ⌜ r ≡ moveOf edges self ⌝ }
+    {
+        let zero = self.has_zero();
+        if zero {
+            return NewClock::Refused(1);
+        }
+        let ordinal = sum(self.ordinal, edges);
+        if ordinal.high != 0 {
+            return NewClock::Refused(7);
+        }
+        let fraction = left_over(
+            self.numerator,
+            periods_of(edges, self.denominator),
+            self.fraction,
+        );
+        match self.after(ordinal.low) {
+            Moment::At(start) => NewClock::Made(Clock {
+                start,
+                numerator: self.numerator,
+                denominator: self.denominator,
+                ordinal: ordinal.low,
+                fraction,
+            }),
+            Moment::Refused(_) => NewClock::Refused(7),
+        }
     }
 }

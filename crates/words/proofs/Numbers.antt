@@ -1,7 +1,7 @@
 -- Laws on plain numbers that the proofs of the products and of one less cite.
 -- Assumes nothing.
 use mathlib.Core.Path.{_≡_, refl, sym, ap, _∙_, subst, subst⁻¹}
-use Prim.Native.Nat.{ℕ, _+_, _-_, _*_, _/_, _%_, _^_, _<_}
+use Prim.Native.Nat.{ℕ, _+_, _-_, _*_, _/_, _%_, _^_, _≤_, _<_}
 use native.Mathlib.Nat.{add-le-add, le-refl, add-assoc, add-comm, add-left-comm, mul-assoc, mul-comm, mul-left-comm, mul-right-comm, mul-add, add-mul, le-of-lt, le-of-eq, le-trans, le-add-right, lt-of-le-of-lt, lt-of-mul-lt-mul-right, mul-le-mul-left, mul-lt-mul-of-pos-right}
 use native.Mathlib.Omega.{arith}
 use lib.Arith.{digits-lt}
@@ -63,8 +63,8 @@ module _ (h l m u₁ u₀ l₁ l₀ s₁ s₀ : ℕ) (upper : u₁ * 2 ^ 64 + u�
       joined x u n l₁ l₀ e f = omega arith
 
 -- the upper part of a number less one
-pub less-some : (x l : ℕ) → (l ≡ 0 → ⊥) → l < 2 ^ 64 → x ≡ (x * 2 ^ 64 + l - 1) / 2 ^ 64
-less-some x l some h = omega arith
+pub less-some : (x l f : ℕ) → f < l → l < 2 ^ 64 → x ≡ (x * 2 ^ 64 + l - 1 - f) / 2 ^ 64
+less-some x l f some h = omega arith
 
-pub less-none : (x l : ℕ) → l ≡ 0 → x - 1 ≡ (x * 2 ^ 64 + l - 1) / 2 ^ 64
-less-none x l none = omega arith
+pub less-none : (x l f : ℕ) → l ≤ f → f < 2 ^ 64 → x - 1 ≡ (x * 2 ^ 64 + l - 1 - f) / 2 ^ 64
+less-none x l f none h = omega arith

@@ -73,11 +73,11 @@ pub fn product_by(n: Wide, by: u64) -> Triple
     }
 }
 
-// The upper two words of the number that is one less, and of 0 where there is none.
-pub fn upper_of_one_less(n: Triple) -> Wide
-    ensures { λ r. ⌜ valueOf r ≡ (tripleOf n - 1) / 2 ^ 64 ⌝ }
+// The upper two words of the number that is one and a word less, and of 0 where there is none.
+pub fn upper_of_less(n: Triple, by: u64) -> Wide
+    ensures { λ r. ⌜ valueOf r ≡ (tripleOf n - 1 - by) / 2 ^ 64 ⌝ }
 {
-    if n.low != 0 {
+    if by < n.low {
         return Wide {
             high: n.high,
             low: n.middle,

@@ -81,6 +81,13 @@ const ROWS: &[Row<Call, Condition>] = &[
     },
     Row {
         name: "prescaler_sum_of_other_waits",
+        calls: &[Call::WaitPause],
+        ends: &[[DONE, TOO_LARGE, SEVEN], [EIGHT, TOO_LARGE, SEVEN]],
+        like: Like::Checked,
+        when: prescaler_sum,
+    },
+    Row {
+        name: "prescaler_sum_of_other_waits",
         calls: &[Call::WaitSelect, Call::WaitLaterEdge],
         ends: WRAPPED,
         like: Like::Checked,
@@ -125,15 +132,18 @@ fn prescaler_sum(call: Call, handed: &Handed) -> bool {
     let args = handed.args;
     let behind_wait = &args[layout::WAIT..];
     let (tap, now) = match call {
-        Call::WaitResume => (&args[..], layout::time_at(behind_wait, 0)),
+        Call::WaitPause | Call::WaitResume => (&args[..], layout::time_at(behind_wait, 0)),
         Call::WaitEdgesBefore => (&args[..], layout::time_at(behind_wait, 0).wrapping_sub(1)),
-        // The tap that is selected: on the old one a wait that is so far behind is past, and refused before it is counted.
+        // The tap that is selected.
         Call::WaitSelect => (behind_wait, layout::time_at(behind_wait, layout::TAP)),
         // Only a wait that is ready counts there, from the time at which it is.
         Call::WaitLaterEdge => (&args[..], layout::time_at(args, 3)),
         _ => (&args[..], layout::time_at(args, layout::TAP)),
     };
-    handed.set.is_some_and(|set| sum_too_large(set, tap, now))
+    // On the old tap a wait that is so far behind is past, and refused before it is counted, unless its clock, moved up, stands
+    // still or hasn't started.
+    let paused = call == Call::WaitSelect;
+    handed.set.is_some_and(|set| sum_too_large(set, tap, now) || paused && sum_too_large(set, args, now))
 }
 
 /// Every call and its ends that a row allows.

@@ -1,7 +1,7 @@
 //! The rows for the peripheral.
 use super::{before_start, held_before_start, sum_too_large, CheckedSet, Ends, Like, Parting, PlainSet, Row};
 use super::{BELOW_ZERO, BY_ZERO, DONE, EIGHT, SEVEN, TOO_LARGE, TWO};
-use words::calls::{Answer, End};
+use words::calls::{self, Answer, End, Reference};
 use words::iic::{self, Call, Peripheral, State};
 use words::layout::{self, Args, Set};
 
@@ -92,6 +92,21 @@ const ROWS: &[Row<Call, When>] = &[
         like: Like::Plain,
         when: When { origins: MADE, holds: held },
     },
+    // Where the ordinal is near 2^63.
+    Row {
+        name: "refused_before_the_start",
+        calls: &[Call::Read, Call::Write],
+        ends: &[SEVEN_LATER],
+        like: Like::Plain,
+        when: When { origins: ANY, holds: early },
+    },
+    Row {
+        name: "a_clock_held_before_its_start",
+        calls: &[Call::Read, Call::Write],
+        ends: &[SEVEN_LATER],
+        like: Like::Plain,
+        when: When { origins: MADE, holds: held },
+    },
     Row {
         name: "a_clock_held_before_its_start",
         calls: &[Call::SetGate, Call::Advance],
@@ -123,7 +138,7 @@ const ROWS: &[Row<Call, When>] = &[
     Row {
         name: "prescaler_sum_of_a_wait",
         calls: &[Call::SetGate],
-        ends: &[[TWO, TOO_LARGE, SEVEN]],
+        ends: &[[TWO, TOO_LARGE, SEVEN], [BY_ZERO, TOO_LARGE, SEVEN]],
         like: Like::Checked,
         when: When { origins: REFUSED, holds: |handed| at_the_sum(handed).is_some() },
     },
@@ -163,19 +178,30 @@ fn has_divider_zero(handed: &Handed) -> bool {
         .any(|wait| wait[1] == 0)
 }
 
-/// The place of the first paused wait that a gate, opened, would go on with behind a prescaler whose sum passes 64 bits. One with
-/// the divider 0 before it ends the call there.
+/// The place of the first wait that a gate, opened, would go on with, or closed, would pause, behind a prescaler whose sum passes
+/// 64 bits; it pauses one only where the clock, moved up, stands still or hasn't started. One with the divider 0 before it ends
+/// the call there.
 fn at_the_sum(handed: &Handed) -> Option<usize> {
+    const RUNNING: u64 = 0;
     const PAUSED: u64 = 1;
     let now = layout::time_at(handed.args, 0);
-    let places = if handed.args[2] == 0 { &[][..] } else { &[iic::FILTER_WAIT, iic::SETUP_WAIT] };
+    let turned = if handed.args[2] == 0 { RUNNING } else { PAUSED };
     let ends_the_call = |place: &usize| {
         wait(handed.state, *place).is_some_and(|wait| {
-            wait[2] == PAUSED && (wait[1] == 0 || wait[3] != 0 && sum_too_large(handed.checked_set, wait, now))
+            let counted = if turned == RUNNING { is_ahead(handed.checked_set, wait, now) } else { wait[3] != 0 };
+            wait[2] == turned && (wait[1] == 0 || counted && sum_too_large(handed.checked_set, wait, now))
         })
     };
-    let first = places.iter().copied().find(ends_the_call)?;
+    let first = [iic::FILTER_WAIT, iic::SETUP_WAIT].into_iter().find(ends_the_call)?;
     (handed.state[first + 2] != 0).then_some(first)
+}
+
+/// Whether a wait's time is none, or a time that isn't past, so that what is left of it is counted.
+fn is_ahead(set: &CheckedSet, wait: &[u64], now: u128) -> bool {
+    let (mut args, mut answer) = ([0; layout::ARGS], Answer::empty());
+    args[..layout::WAIT].copy_from_slice(wait);
+    checked::Bridge::answer(calls::Call::WaitDeadline, Some(set), &args, &mut answer);
+    answer.end == DONE && (answer.words[1] == 0 || layout::time_at(&answer.words, 2) >= now)
 }
 
 /// The state in which the plain build comes to such a wait, where it does: the call is made without that wait and those after it,

@@ -6,6 +6,7 @@ mod sensor;
 use super::{functions, peripheral as machines, sensor as sensors};
 use crate::inputs::{counted, plain_set, FREQUENCIES as DEFAULT};
 use crate::judge::{self, Judge};
+use traffic::exact;
 use words::calls::{self, Answer, Call, End, Reference};
 use words::layout::{self, Set};
 
@@ -75,7 +76,7 @@ fn system_edge(edge: u64) -> u64 {
 /// A set whose clocks start at 0:0000000000000001 and whose system clock stands still, held at time 0.
 fn held_early() -> Set {
     let mut set = plain_set(1, DEFAULT);
-    set[4..layout::DOMAIN].fill(0);
+    set[layout::RUNNING..layout::DOMAIN].fill(0);
     set
 }
 
@@ -151,7 +152,7 @@ fn level_of_a_clock_held_before_its_start() {
     }
     // Held at its start.
     let mut set = held_early();
-    set[6] = 1;
+    set[layout::HELD_AT + 1] = 1;
     check_half_ticks(ROW, &set, [0, 0], ["answered [0]"; 3]);
 }
 
@@ -194,6 +195,12 @@ fn prescaler_sum_of_other_waits() {
     check(ROW, Call::WaitSelect, &set, &selected(TOP, later), ["7", TOO_LARGE, "7"]);
     let made = "answered [0, 2, 0, 18446744073709551615, 0]";
     check(ROW, Call::WaitSelect, &set, &selected(TOP, at), [made, TOO_LARGE, "7"]);
+    // A system clock that was moved up by two edges and stands still: no time is past for it.
+    let mut moved = set;
+    moved[..layout::CLOCK].copy_from_slice(&exact::moved(&exact::clock(layout::domain(&set, 0)), 2));
+    moved[layout::RUNNING] = 0;
+    let pause = [SYSTEM_2[0], SYSTEM_2[1], RUNNING, TOP, 0, 0, at];
+    check(ROW, Call::WaitPause, &moved, &pause, ["answered [0, 2, 1, 18446744073709551615, 0]", TOO_LARGE, "7"]);
 }
 
 #[test]
@@ -210,7 +217,7 @@ fn no_number_after_the_count() {
 fn a_clock_with_a_zero() {
     let mut set = plain_set(0, DEFAULT);
     // The subclock's denominator, though only the system domain is asked for.
-    set[layout::DOMAINS * layout::DOMAIN - 4] = 0;
+    set[layout::AT_S - layout::DOMAIN + 3] = 0;
     assert!(judge::sets(&set).is_none());
     let mut answer = Answer::empty();
     for function in calls::CLOCKS.iter().filter(|function| function.set && function.call != Call::ClocksHasZero) {

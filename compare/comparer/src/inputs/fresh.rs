@@ -27,7 +27,7 @@ fn written(start: u128, [main, watch, on_chip]: [u64; layout::FREQUENCIES]) -> S
     let mut set = [0; layout::SET];
     let rates = [(main, 1), (main, 1), (watch, 1), (on_chip, 1), (main, 1), (watch, 8)];
     for (domain, (hz, divide)) in set.chunks_mut(layout::DOMAIN).zip(rates) {
-        domain.copy_from_slice(&[seconds, fraction, hz, divide, 1, seconds, fraction]);
+        domain.copy_from_slice(&[seconds, fraction, hz, divide, 0, 0, 1, seconds, fraction]);
     }
     // The prescalers run, and have counted nothing.
     set[layout::AT_S + 2] = 1;

@@ -13,6 +13,7 @@ const MOST: u64 = 60_000;
 
 const LATE: u128 = u128::MAX - (1 << 80);
 const STARTS: [u128; 6] = [0, 1, 1 << 64, LATE, u128::MAX - 1, u128::MAX];
+const ORDINALS: [u64; 4] = [0, 1, 1 << 63, u64::MAX];
 const ANCHORS: [u64; 4] = [0, 1, 1 << 32, u64::MAX];
 const PHASES: [u64; 13] = [0, 1, 2, 127, 128, 255, 256, 4095, 4096, 8191, 8192, 32768, 65535];
 const EMITTED: [u64; 4] = [0, 1, u64::MAX - 1, u64::MAX];
@@ -79,8 +80,8 @@ fn size(kind: Kind) -> u64 {
         Kind::Span => 7,
         Kind::Hz => FREQUENCIES.len(),
         Kind::Denominator => DENOMINATORS.len(),
-        Kind::Clock => STARTS.len() * FREQUENCIES.len() * DENOMINATORS.len(),
-        Kind::Domain => STARTS.len() * FREQUENCIES.len() * DENOMINATORS.len() * 6,
+        Kind::Clock => STARTS.len() * FREQUENCIES.len() * DENOMINATORS.len() * ORDINALS.len() * 4,
+        Kind::Domain => STARTS.len() * FREQUENCIES.len() * DENOMINATORS.len() * ORDINALS.len() * 4 * 6,
         Kind::Edges | Kind::Parent | Kind::Tick => NEAR,
         Kind::PrescalerS | Kind::PrescalerW => ANCHORS.len() * 4 * 2 * EMITTED.len(),
         Kind::Phase => PHASES.len(),
@@ -108,8 +109,9 @@ fn boundary(kind: Kind, digits: &mut Digits, focus: &Focus, out: &mut [u64]) {
         Kind::Domain => {
             put_clock(digits, out);
             let start = layout::time_at(out, 0);
-            out[4] = digits.below(2) as u64;
-            put_time(digits.pick(&[start.wrapping_sub(1), start, u128::MAX]), &mut out[5..]);
+            out[layout::RUNNING] = digits.below(2) as u64;
+            let held = digits.pick(&[start.wrapping_sub(1), start, u128::MAX]);
+            put_time(held, &mut out[layout::HELD_AT..]);
         }
         Kind::Edges => out[0] = digits.near(exact::last(&focus.clock)),
         Kind::Parent => out[0] = digits.near(focus.anchor()),
@@ -141,6 +143,9 @@ fn put_clock(digits: &mut Digits, out: &mut [u64]) {
     put_time(digits.pick(&STARTS), out);
     out[2] = digits.pick(&FREQUENCIES);
     out[3] = digits.pick(&DENOMINATORS);
+    let numerator = out[2];
+    out[layout::ORDINAL] = digits.pick(&ORDINALS);
+    out[layout::FRACTION] = digits.pick(&[0, 1, numerator.wrapping_sub(1), numerator]);
 }
 
 fn put_tap(digits: &mut Digits, dividers: &[u64], out: &mut [u64]) {
@@ -181,8 +186,8 @@ fn sets() -> Vec<Set> {
 /// A set whose domains are held at a time.
 fn stopped(mut set: Set, held_at: u128) -> Set {
     for domain in set[..layout::AT_S].chunks_mut(layout::DOMAIN) {
-        domain[4] = 0;
-        put_time(held_at, &mut domain[5..]);
+        domain[layout::RUNNING] = 0;
+        put_time(held_at, &mut domain[layout::HELD_AT..]);
     }
     set
 }

@@ -9,7 +9,7 @@ use focus::Focus;
 pub use fresh::counted;
 pub use fresh::plain_set;
 pub use numbers::{divider, start, word};
-pub use objects::set;
+pub use objects::{moved, set};
 use traffic::random::Random;
 use words::calls::{Function, Kind};
 use words::layout::{self, Args, Set};

@@ -214,7 +214,7 @@ pub fn time(random: &mut Random, focus: &Focus) -> u128 {
 pub fn fixed_times(focus: &Focus) -> [u128; FIXED_TIMES] {
     let clock = &focus.clock;
     let start = layout::time_at(clock, 0);
-    let first = exact::edge(clock, 1);
+    let first = exact::edge(clock, exact::first(clock));
     let top = exact::edge(clock, TOP);
     let half = exact::edge(clock, 1 << 63);
     [

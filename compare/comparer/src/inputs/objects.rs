@@ -2,6 +2,7 @@
 use super::focus::Focus;
 use super::fresh::plain_set;
 use super::numbers;
+use traffic::exact;
 use traffic::random::Random;
 use words::layout::{self, Set};
 
@@ -12,7 +13,31 @@ pub fn clock(random: &mut Random, damaged: bool) -> [u64; layout::CLOCK] {
         numerator = numbers::or_zero(random, numerator, 2);
         denominator = numbers::or_zero(random, denominator, 2);
     }
-    [seconds, fraction, numerator, denominator]
+    let clock = moved(random, [seconds, fraction, numerator, denominator, 0, 0]);
+    if damaged && random.once_in(3) {
+        let over = numerator.saturating_add(random.below(3));
+        return [seconds, fraction, numerator, denominator, clock[layout::ORDINAL], over];
+    }
+    clock
+}
+
+/// A clock as it was, moved up once or a few times, or with any ordinal and fraction.
+pub fn moved(random: &mut Random, mut clock: [u64; layout::CLOCK]) -> [u64; layout::CLOCK] {
+    match random.below(8) {
+        0..=3 => clock,
+        4 => {
+            clock[layout::ORDINAL] = numbers::word(random);
+            clock[layout::FRACTION] = random.below(clock[2].max(1));
+            clock
+        }
+        times => {
+            for _ in 4..times {
+                let most = random.pick(&[4, 1000, 1 << 20, 1 << 40, u64::MAX]);
+                clock = exact::moved(&clock, random.below(most));
+            }
+            clock
+        }
+    }
 }
 
 pub fn domain(random: &mut Random, damaged: bool) -> [u64; layout::DOMAIN] {
@@ -24,11 +49,11 @@ pub fn domain(random: &mut Random, damaged: bool) -> [u64; layout::DOMAIN] {
 fn held(random: &mut Random, clock: [u64; layout::CLOCK]) -> [u64; layout::DOMAIN] {
     let mut domain = [0; layout::DOMAIN];
     domain[..layout::CLOCK].copy_from_slice(&clock);
-    domain[4] = u64::from(!random.once_in(8));
+    domain[layout::RUNNING] = u64::from(!random.once_in(8));
     let mut focus = Focus::new(&[1; layout::SET]);
     focus.clock = clock;
     let at = if random.once_in(2) { layout::time_at(&clock, 0) } else { numbers::time(random, &focus) };
-    domain[5..].copy_from_slice(&layout::halves(at));
+    domain[layout::HELD_AT..].copy_from_slice(&layout::halves(at));
     domain
 }
 
@@ -103,6 +128,8 @@ pub fn set(random: &mut Random) -> Set {
     let start = numbers::start(random);
     let set = if fresh { plain_set(start, frequencies) } else { any_domains(random, damaged.then_some(broken)) };
     let mut used = set;
+    let system = moved(random, exact::clock(layout::domain(&set, 0)));
+    used[..layout::CLOCK].copy_from_slice(&system);
     prescaler(random, layout::STAGES_S, &mut used[layout::AT_S..layout::AT_W]);
     prescaler(random, layout::STAGES_W, &mut used[layout::AT_W..]);
     if fresh && !random.once_in(4) {

@@ -79,11 +79,19 @@ pub fn new_set(random: &mut Random) -> (Set, u128) {
     (set, begin(random, &set))
 }
 
+/// The same with a system clock whose start may have been moved up.
+fn moved_set(random: &mut Random) -> (Set, u128) {
+    let (mut set, _) = new_set(random);
+    let moved = inputs::moved(random, system(&set));
+    set[..layout::CLOCK].copy_from_slice(&moved);
+    (set, begin(random, &set))
+}
+
 /// A time near the clock's start, near half counts of 2^64, near the last time, or anywhere.
 fn begin(random: &mut Random, set: &Set) -> u128 {
     let clock = system(set);
     let start = layout::time_at(&clock, 0);
-    let step = exact::edge(&clock, 1).saturating_sub(start).max(1);
+    let step = exact::edge(&clock, exact::first(&clock)).saturating_sub(start).max(1);
     let near = u128::from(random.any_length()) % step;
     match random.below(20) {
         0 => start.saturating_sub(near),
@@ -93,7 +101,7 @@ fn begin(random: &mut Random, set: &Set) -> u128 {
         }
         2 => exact::edge(&clock, exact::last(&clock).saturating_sub(random.below(200))).saturating_add(near),
         3 => layout::joined(random.any_length(), random.word()),
-        _ => exact::edge(&clock, random.below(1000)).saturating_add(near),
+        _ => exact::edge(&clock, clock[layout::ORDINAL].saturating_add(random.below(1000))).saturating_add(near),
     }
 }
 
@@ -104,7 +112,7 @@ pub fn system(set: &Set) -> exact::Clock {
 
 fn from_default(random: &mut Random, draw: Draw, length: u64, tally: &mut Tally) {
     let rates = draw(random);
-    let (set, now) = new_set(random);
+    let (set, now) = moved_set(random);
     let host = Host::new(random, now, system(&set));
     // Over a refused set nothing moves.
     let length = if rates::refused(&rates) { length.min(20) } else { length };
@@ -132,7 +140,7 @@ fn from_scene(random: &mut Random, draw: Draw, tally: &mut Tally) {
 
 fn from_made(random: &mut Random, draw: Draw, tally: &mut Tally) {
     let rates = draw(random);
-    let set = if random.once_in(2) { inputs::set(random) } else { new_set(random).0 };
+    let set = if random.once_in(2) { inputs::set(random) } else { moved_set(random).0 };
     // On an edge of the system clock, as a rule, so that waits can end just then.
     let begin = begin(random, &set);
     let clock = system(&set);

@@ -68,6 +68,7 @@ pub fn over_set(call: Call, set: &Clocks, args: &Args, out: &mut [u64]) -> Resul
         Call::ClocksHigh => out[0] = u64::from(set.high(now, tap())),
         Call::HalfTicks => out[0] = set.system_half_ticks(inside::time(args, 0))?,
         Call::HalfEdge => put_time(set.system_half_edge(args[0])?, out),
+        Call::ClocksAdvanceSystem => inside::put_set(&inside::advance_system(set, args[0])?, out),
         _ => return wait::answer(call, set, args, out),
     }
     Ok(())

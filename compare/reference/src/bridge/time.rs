@@ -3,7 +3,7 @@ use super::{inside, put_time};
 use crate::time::{Clock, Duration, Time, TimeError};
 use crate::Error;
 use words::calls::Call;
-use words::layout::Args;
+use words::layout::{self, Args};
 
 pub fn answer(call: Call, args: &Args, out: &mut [u64]) -> Result<(), Error> {
     let (a, b) = (inside::time(args, 0), inside::time(args, 2));
@@ -21,8 +21,21 @@ pub fn answer(call: Call, args: &Args, out: &mut [u64]) -> Result<(), Error> {
         Call::TimeMidway => put_time(Time::from_raw(a.raw() + (b.raw() - a.raw()) / 2), out),
         Call::ClockNew => inside::put_clock(&Clock::new(a, args[2], args[3])?, out),
         Call::ClockHasZero => out[0] = u64::from(inside::clock(args).is_none()),
-        Call::ClockAfter => put_time(clock(args)?.after(args[4])?, out),
-        Call::ClockEdgesBefore => out[0] = clock(args)?.edges_before(inside::time(args, 4)),
+        // An edge by its own number and a whole count, as clocks.rs and domain.rs ask for them.
+        Call::ClockAfter => {
+            let clock = clock(args)?;
+            let edges = args[layout::CLOCK].checked_sub(clock.ordinal()).ok_or(TimeError::Reversed)?;
+            put_time(clock.after(edges)?, out)
+        }
+        Call::ClockEdgesBefore => {
+            let clock = clock(args)?;
+            out[0] = clock.ordinal().saturating_add(clock.edges_before(inside::time(args, layout::CLOCK)))
+        }
+        Call::ClockAdvance => {
+            let mut clock = clock(args)?;
+            clock.advance(args[layout::CLOCK])?;
+            inside::put_clock(&clock, out)
+        }
         _ => return Err(Error::Internal("no call of time.rs")),
     }
     Ok(())

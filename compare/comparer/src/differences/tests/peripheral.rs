@@ -344,7 +344,7 @@ fn prescaler_sum_after_a_level() {
 #[test]
 fn a_clock_with_a_zero() {
     let mut set = plain_set(0, DEFAULT);
-    set[layout::DOMAINS * layout::DOMAIN - 4] = 0;
+    set[layout::AT_S - layout::DOMAIN + 3] = 0;
     assert!(reference::Bridge::set(&set).is_none());
     let mut state = about_to_rise(0);
     state[iic::COUNT] = 8;

@@ -48,7 +48,8 @@ impl Case {
     fn near_a_row(random: &mut Random) -> Self {
         let mut set = plain_set(0, FREQUENCIES);
         set[0] = random.below(2);
-        set[4] = u64::from(!random.once_in(4));
+        set[layout::ORDINAL] = random.pick(&[0, 0, 2, (1 << 63) - 1]);
+        set[layout::RUNNING] = u64::from(!random.once_in(4));
         for stages in [layout::AT_S + layout::DIVIDER..layout::AT_W, layout::AT_W + layout::DIVIDER..layout::SET] {
             set[stages].fill_with(|| random.pick(&[u64::MAX, 1]));
         }

@@ -1,6 +1,6 @@
 use Rattle.calls.proofs.Told.{told}
-use Rattle.calls.proofs.put_seven.Statement.{statement}
-use Rattle.calls.proofs.put_seven.Tie as tie
+use Rattle.calls.proofs.put_nine.Statement.{statement}
+use Rattle.calls.proofs.put_nine.Tie as tie
 use borrow.Author.Needs.{needs}
 use lib.Dec.{lit<}
 use mathlib.Core.List.{[], _∷_}
@@ -30,13 +30,19 @@ element-write-out-7 c = search needs
 element-write-out-8 : tie.Need-element-write-out-8
 element-write-out-8 c = search needs
 
+element-write-out-9 : tie.Need-element-write-out-9
+element-write-out-9 c = search needs
+
+element-write-out-10 : tie.Need-element-write-out-10
+element-write-out-10 c = search needs
+
 returns : tie.Need-returns
 returns c =
     let a = c .args in
-    (refl, told (a .out .now) (a .a ∷ a .b ∷ a .c ∷ a .d ∷ a .e ∷ a .f ∷ a .g ∷ []) (lit< tt))
+    (refl, told (a .out .now) (a .a ∷ a .b ∷ a .c ∷ a .d ∷ a .e ∷ a .f ∷ a .g ∷ a .h ∷ a .i ∷ []) (lit< tt))
 
-pub put-seven-spec : {M : Type 1} → statement M
-put-seven-spec =
+pub put-nine-spec : {M : Type 1} → statement M
+put-nine-spec =
     tie.close
     (tie.spec
     element-write-out
@@ -47,4 +53,6 @@ put-seven-spec =
     element-write-out-6
     element-write-out-7
     element-write-out-8
+    element-write-out-9
+    element-write-out-10
     returns)
