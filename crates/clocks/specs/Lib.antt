@@ -7,4 +7,5 @@ pub mod Half
 pub mod Wait
 pub mod System
 pub mod SystemLaws
+pub mod HalfLaws
 pub mod Moves

@@ -9,7 +9,7 @@ use lib.Bits.{bitAnd, bitOr, and-high, and-le-r, and-mask, and-step, or-step, an
 use lib.Dec.{eqb, leb}
 use Rattle.bus.specs.Bits.{has, without}
 use Rattle.time.specs.Truths.{and-left, and-right}
-use Rattle.hosts.specs.Masks.{half-and, odd-and}
+use Rattle.bus.specs.MaskLaws.{half-and, odd-and}
 use Rattle.flags.specs.StatusWrites.{Flag, tdre, tend, rdrf, nackf, stop, al, aas, adz, isSet, maskOf}
 
 -- ## Digits

@@ -132,7 +132,7 @@ unfolding anyDue
 visit-same now k s true e h d = rw e refl
 visit-same now k s false e h d = behind k s (visitOf now k s) (undue-visit now k s _ refl h (rw e at d))
 
-idle-same : (k : Clocks) (x : Call) (h : Host) → Good h → idle k x h ≡ true → after k x h ≡ h
+pub idle-same : (k : Clocks) (x : Call) (h : Host) → Good h → idle k x h ≡ true → after k x h ≡ h
 unfolding idle after outcomeOf readOf inputPinsOf setGateOf advanceOf
 idle-same k (peek a) h g i = refl
 idle-same k (read a now) h g i =
@@ -195,7 +195,7 @@ runs-agree k (suc (suc n)) h (x ∷ l) (y ∷ m) p q r t a b e ok =
     runs-agree k (suc n) (after k (x .call) h) l m p q (r .1 fine-x) second a b rest (or-right (isRefusal (x .answer)) _ ok)
 
 -- the default is settled
-good-start : (r : Rates) → Good (start r)
+pub good-start : (r : Rates) → Good (start r)
 unfolding start initial settled
 good-start r e = refl
 

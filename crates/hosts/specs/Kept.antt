@@ -11,17 +11,12 @@ use Rattle.bus.specs.Bus.{sameLevels, levels}
 use Rattle.time.specs.declared.Time.{Time}
 use Rattle.clocks.specs.declared.Clocks.{Clocks}
 use Rattle.clocks.specs.declared.domain.Domain.{Domain}
-use Rattle.clocks.specs.declared.wait.NewWait.{NewWait}
-use Rattle.clocks.specs.declared.wait.NewWait.the-variants as wait
 use Rattle.clocks.specs.Clocks.{hasZero}
 use Rattle.clocks.specs.System.{systemAfter}
 use Rattle.iic.specs.declared.Iic.{Iic}
-use Rattle.iic.specs.declared.Ended.{Ended}
-use Rattle.iic.specs.declared.Ended.the-variants.{Finished, Refused}
 use Rattle.iic.specs.declared.Stepped.{Stepped}
 use Rattle.frames.specs.declared.Framing.{Framing}
 use Rattle.frames.specs.declared.Framing.the-variants.{NoFrame, InFrame}
-use Rattle.clocks.specs.declared.wait.ClockWait.{ClockWait}
 use Rattle.waits.specs.declared.MaybeWait.{MaybeWait}
 use Rattle.waits.specs.declared.MaybeWait.the-variants.{NoWait, Waiting}
 use Rattle.waits.specs.declared.MaybeHalf.{MaybeHalf}
@@ -33,7 +28,7 @@ use Rattle.iic.specs.Writing.{takeControlOf, stopReceiveOf, enterResetOf, pullS
 use Rattle.iic.specs.Reading.{resumedOf, receiveOn, readDataOf, readAt}
 use Rattle.iic.specs.Writing.{controlTaken, writeControlOf, commandFrom, outOfResetOf, writeCommandOf, sendOnOf, writeDataOf, writeAt}
 use Rattle.frames.specs.Parts.{recountIn, isData}
-use Rattle.iic.specs.Answers.{fine, andThen, guarded, byteOf, truthOf}
+use Rattle.iic.specs.Answers.{fine, andThen, guarded}
 use Rattle.iic.specs.Bits.{TDRE, NACKF, BC, BCWP, IICRST, SDAOP}
 use Rattle.iic.specs.Calls.{guardBy, peekOf, takePinsOf, keepStretchedOf, turnWaitsOf, turnGateOf, visitOf, readOf, writeOf, inputPinsOf, setGateOf, advanceOf}
 use Rattle.iic.specs.Filter.{observes}
@@ -43,18 +38,13 @@ use Rattle.iic.specs.State.{stopShifterOf, enabled, awake, transmits, condition
 use Rattle.iic.specs.Waiting.{wantsFilter, scheduleFilterOf, filterFrom, halfFrom, turnClockOf, turnFilterOf, turnHalfIn, turnMonitorOf, turnSetupOf, turnWaitIn, waitFrom}
 use Rattle.waits.specs.Ends.{turnHalf, turnWait, waitEnd}
 use Rattle.hosts.specs.Calls.{Call, peek, read, write, inputPins, deadline, advance, pins, interrupt, interruptWithEnable, validate, outcomeOf, Host, lifts, after}
-use Rattle.iic.specs.Told.{ofEnd, ofByte, ofTruth, isRefusal}
-use Rattle.hosts.specs.Invariant.{Good}
+use Rattle.iic.specs.Told.{ofEnd, isRefusal}
+use Rattle.hosts.specs.Invariant.{Good, Leaves}
 use Rattle.iic.specs.Settled.{settled}
-use Rattle.hosts.specs.Kicked.{leavesAt, Leaves, Settled, Settles, then-leaves, leaves-more, half-leaves, unready, kick-settles, then-kick}
+use Rattle.hosts.specs.Kicked.{Settled, Settles, unready, kick-settles, then-kick}
+use Rattle.hosts.specs.Left.{byte-refused, guarded-left, half-leaves, leaves-more, then-leaves, truth-refused, wait-leaves}
 use Rattle.time.specs.Truths.{or-left, or-right}
-use Rattle.hosts.specs.Masks.{has-kept}
-
--- ## Waits
-
-wait-leaves : (P : Iic → Type 0) (set : MaybeWait → Iic → Iic) (w : NewWait) (s : Iic) → ((v : ClockWait) → P (set (Waiting v) s)) → Leaves P (waitFrom set w s)
-wait-leaves P set (wait.Made v) s h = h v
-wait-leaves P set (wait.Refused n) s h = tt
+use Rattle.bus.specs.MaskLaws.{has-kept}
 
 -- ## Off, gated off or in reset
 
@@ -80,7 +70,7 @@ in-reset s e = unready s (rw e (rw (and-false (awake s))))
 schedule-at : (now : Time) (k : Domain) (s : Iic) (b : Bool) → Settled s
     → Settles (cond b (filterFrom (systemAfter now 1 k) s) (fine s))
 unfolding settled
-schedule-at now k s true h = wait-leaves Settled setFilterWait (systemAfter now 1 k) s (λ m. h)
+schedule-at now k s true h = wait-leaves Settled setFilterWait (systemAfter now 1 k) s (λ m i. h)
 schedule-at now k s false h = h
 
 schedule-settles : (now : Time) (k : Domain) (s : Iic) → Settled s → Settles (scheduleFilterOf now k s)
@@ -95,18 +85,18 @@ pins-settles given now k s false e h = rw e (schedule-settles now k (setRaw give
 
 -- ## `set_gate`
 
-abbrev Ungated : Iic → Type 0
+abbrev pub Ungated : Iic → Type 0
 Ungated s = s .flags .gate ≡ false
 
 half-off : (set : MaybeHalf → Iic → Iic) → ((x : MaybeHalf) (s : Iic) → Ungated s → Ungated (set x s)) → (now : Time) (k : Domain) (w : MaybeHalf) (s : Iic)
     → Ungated s → Leaves Ungated (turnHalfIn (halfFrom set) false now k w s)
 half-off set keeps now k NoHalf s h = h
-half-off set keeps now k (Half w) s h = half-leaves Ungated set (turnHalf false now k w) s (λ v. keeps (Half v) s h)
+half-off set keeps now k (Half w) s h = half-leaves Ungated set (turnHalf false now k w) s (λ v i. keeps (Half v) s h)
 
 wait-off : (set : MaybeWait → Iic → Iic) → ((x : MaybeWait) (s : Iic) → Ungated s → Ungated (set x s)) → (now : Time) (k : Clocks) (w : MaybeWait) (s : Iic)
     → Ungated s → Leaves Ungated (turnWaitIn (waitFrom set) false now k w s)
 wait-off set keeps now k NoWait s h = h
-wait-off set keeps now k (Waiting w) s h = wait-leaves Ungated set (turnWait false now k w) s (λ v. keeps (Waiting v) s h)
+wait-off set keeps now k (Waiting w) s h = wait-leaves Ungated set (turnWait false now k w) s (λ v i. keeps (Waiting v) s h)
 
 -- `turnWaitsOf` by its parts, the last first
 off-1 : (now : Time) (k : Domain) (s : Iic) → Ungated s → Leaves Ungated (andThen (turnClockOf false now k s) (turnMonitorOf false now k))
@@ -116,7 +106,7 @@ off-1 now k s h =
     (half-off setClockWait (λ x t g. g) now k (s .«clock_wait») s h)
     (λ t g. half-off setMonitorWait (λ x u f. f) now k (t .«monitor_wait») t g)
 
-waits-off : (now : Time) (k : Clocks) (s : Iic) → Ungated s → Leaves Ungated (turnWaitsOf false now k s)
+pub waits-off : (now : Time) (k : Clocks) (s : Iic) → Ungated s → Leaves Ungated (turnWaitsOf false now k s)
 unfolding turnWaitsOf keepStretchedOf turnFilterOf turnSetupOf
 waits-off now k s h =
     let o1 : Stepped = andThen (turnClockOf false now (k .system) s) (turnMonitorOf false now (k .system)) in
@@ -246,32 +236,10 @@ write-settles ICDRR value now k s n h = h
 
 -- ## The refusals that stand first
 
-guarded-settles : (g : ℕ) (s : Iic) (o : Stepped) (b : Bool) → eqb g 0 ≡ b → Settles o → Settles (guarded g s o)
-guarded-settles g s o true e h = rw e h
-guarded-settles g s o false e h = rw e tt
-
--- what a step leaves unless it is refused holds where it isn't
-unrefused : (e : Ended) (P : Iic → Type 0) (s : Iic) → leavesAt P e s → isRefusal (ofEnd e) ≡ false → P s
-unrefused Finished P s h a = h
-unrefused (Refused n) P s h a = absurd (true≢false a)
-
 -- where a guarded step isn't refused, it is the step itself
 passes : (g : ℕ) (s : Iic) (o : Stepped) (b : Bool) → eqb g 0 ≡ b → isRefusal (ofEnd (guarded g s o .ended)) ≡ false → guarded g s o ≡ o
 passes g s o true e a = rw e
 passes g s o false e a = absurd (true≢false (rw e at a))
-
-guarded-settled : (g : ℕ) (s : Iic) (o : Stepped) → Settles o → isRefusal (ofEnd (guarded g s o .ended)) ≡ false → Settled (guarded g s o .state)
-guarded-settled g s o h a =
-    unrefused (guarded g s o .ended) Settled (guarded g s o .state) (guarded-settles g s o (eqb g 0) refl h) a
-
--- answers that hold a value are refused as the steps are
-byte-refused : (e : Ended) (v : ℕ) → isRefusal (ofByte (byteOf e v)) ≡ isRefusal (ofEnd e)
-byte-refused Finished v = refl
-byte-refused (Refused n) v = refl
-
-truth-refused : (e : Ended) (b : Bool) → isRefusal (ofTruth (truthOf e b)) ≡ isRefusal (ofEnd e)
-truth-refused Finished b = refl
-truth-refused (Refused n) b = refl
 
 -- ## Every call
 
@@ -282,24 +250,24 @@ write-good r value now k s was a g e =
     let w : Stepped = writeAt r value now (k .system) s in
     let same : guarded (guardBy (hasZero k) s) s w ≡ w = passes (guardBy (hasZero k) s) s w (eqb (guardBy (hasZero k) s) 0) refl a in
     let n : lifts s (w .state) ≡ false = rw same at (or-right was (lifts s (guarded (guardBy (hasZero k) s) s w .state)) e) in
-    guarded-settled (guardBy (hasZero k) s) s w (write-settles r value now (k .system) s n (g (or-left was _ e))) a
+    guarded-left Settled (guardBy (hasZero k) s) s w (write-settles r value now (k .system) s n (g (or-left was _ e))) a
 
 -- the host after a call that isn't refused is good where the one before was
 pub good-after : (k : Clocks) (x : Call) (h : Host) → Good h → isRefusal (outcomeOf k x (h .state) .answer) ≡ false → Good (after k x h)
 unfolding outcomeOf after readOf writeOf inputPinsOf setGateOf advanceOf
 good-after k (peek a) h g ok = g
 good-after k (read a now) h g ok = λ e.
-    guarded-settled (guardBy (hasZero k) (h .state)) (h .state) (readAt (registerAt a) now (k .system) (h .state))
+    guarded-left Settled (guardBy (hasZero k) (h .state)) (h .state) (readAt (registerAt a) now (k .system) (h .state))
     (read-settles (registerAt a) now (k .system) (h .state) (g e)) (sym (byte-refused (guarded (guardBy (hasZero k) (h .state)) (h .state) (readAt (registerAt a) now (k .system) (h .state)) .ended) (peekOf (h .state) a)) ∙ ok)
 good-after k (write a value now) h g ok = write-good (registerAt a) value now k (h .state) (h .lifted) ok g
 good-after k (inputPins scl sda now) h g ok = λ e.
-    guarded-settled (guardBy (hasZero k) (h .state)) (h .state) (takePinsOf (levels scl sda) now (k .system) (h .state))
+    guarded-left Settled (guardBy (hasZero k) (h .state)) (h .state) (takePinsOf (levels scl sda) now (k .system) (h .state))
     (pins-settles (levels scl sda) now (k .system) (h .state) _ refl (g e)) (sym (truth-refused (guarded (guardBy (hasZero k) (h .state)) (h .state) (takePinsOf (levels scl sda) now (k .system) (h .state)) .ended) (observes (h .state) (levels scl sda))) ∙ ok)
 good-after k (Call.setGate gate now) h g ok = λ e.
-    guarded-settled (guardBy (hasZero k) (h .state)) (h .state) (turnGateOf gate now k (h .state)) (gate-settles gate now k (h .state) _ refl (g e)) ok
+    guarded-left Settled (guardBy (hasZero k) (h .state)) (h .state) (turnGateOf gate now k (h .state)) (gate-settles gate now k (h .state) _ refl (g e)) ok
 good-after k deadline h g ok = g
 good-after k (advance now) h g ok = λ e.
-    guarded-settled (guardBy (hasZero k) (h .state)) (h .state) (visitOf now k (h .state)) (visit-settles now k (h .state) _ refl) ok
+    guarded-left Settled (guardBy (hasZero k) (h .state)) (h .state) (visitOf now k (h .state)) (visit-settles now k (h .state) _ refl) ok
 good-after k pins h g ok = g
 good-after k interrupt h g ok = g
 good-after k (interruptWithEnable retained) h g ok = g

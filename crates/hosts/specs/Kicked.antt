@@ -5,23 +5,15 @@ use Rattle.bus.specs.Bits.{has}
 use Rattle.time.specs.declared.Time.{Time}
 use Rattle.clocks.specs.declared.domain.Domain.{Domain}
 use Rattle.iic.specs.declared.Iic.{Iic}
-use Rattle.iic.specs.declared.Ended.{Ended}
-use Rattle.iic.specs.declared.Ended.the-variants.{Finished, Refused}
 use Rattle.iic.specs.declared.Stepped.{Stepped}
 use Rattle.frames.specs.declared.Frame.{Frame}
 use Rattle.frames.specs.declared.Framing.{Framing}
 use Rattle.frames.specs.declared.Framing.the-variants.{NoFrame, InFrame}
 use Rattle.iic.specs.declared.Command.{Command}
 use Rattle.iic.specs.declared.Command.the-variants.{NoCommand, Commanded}
-use Rattle.iic.specs.declared.Hold.{Hold}
 use Rattle.iic.specs.declared.Hold.the-variants.{Transmit}
-use Rattle.waits.specs.declared.HalfWait.{HalfWait}
-use Rattle.waits.specs.declared.NewHalf.{NewHalf}
-use Rattle.waits.specs.declared.NewHalf.the-variants as half
-use Rattle.waits.specs.declared.MaybeHalf.the-variants.{Half}
-use Rattle.waits.specs.declared.MaybeHalf.{MaybeHalf}
 use Rattle.iic.specs.Bits.{TDRE}
-use Rattle.iic.specs.Answers.{fine, goOn, andThen}
+use Rattle.iic.specs.Answers.{fine, andThen}
 use Rattle.waits.specs.Half.{halfAfter}
 use Rattle.iic.specs.Ready.{ready, commandReady, frameDue, nextFrameOf, clockDue, lowHalfOf, levelAt}
 use Rattle.iic.specs.Conditions.{firstCondition, begunOf}
@@ -31,55 +23,16 @@ use Rattle.frames.specs.Parts.{starved, isDone}
 use Rattle.iic.specs.Shift.{canLoad, loadIn, loadTransmitOf, beginFrameOf, setHoldOf}
 use Rattle.iic.specs.State.{awake, master, synchronous, framed, commanded, conditioned, held, isCondition}
 use Rattle.waits.specs.Rates.{periodOf}
-use Rattle.iic.specs.Waiting.{halfFrom, startClockOf}
-use Rattle.iic.specs.Settled.{loadsIn, loads, restsIn, rests, atRest, settled}
-use Rattle.time.specs.Truths.{and-left, and-right, not-so}
-
--- ## What a step leaves
-
-abbrev pub leavesAt : (Iic → Type 0) → Ended → Iic → Type 0
-leavesAt P Finished s = P s
-leavesAt P (Refused n) s = Unit {0}
-
--- unless it is refused, the step leaves a state of which P holds
-abbrev pub Leaves : (Iic → Type 0) → Stepped → Type 0
-Leaves P o = leavesAt P (o .ended) (o .state)
+use Rattle.iic.specs.Waiting.{startClockOf}
+use Rattle.iic.specs.Settled.{loadsIn, loads, rests, settled}
+use Rattle.hosts.specs.Invariant.{Leaves}
+use Rattle.hosts.specs.Left.{half-leaves, left, then-leaves}
 
 abbrev pub Settled : Iic → Type 0
 Settled s = settled s ≡ true
 
 abbrev pub Settles : Stepped → Type 0
 Settles o = Leaves Settled o
-
--- nothing is said of the state
-abbrev pub Any : Iic → Type 0
-Any s = Unit {0}
-
-pub any : (o : Stepped) → Leaves Any o
-any o = go (o .ended)
-  where
-    go : (e : Ended) → leavesAt Any e (o .state)
-    go Finished = tt
-    go (Refused n) = tt
-
--- the Rust's `?`
-pub then-leaves : (P Q : Iic → Type 0) (o : Stepped) (f : Iic → Stepped) → Leaves P o → ((s : Iic) → P s → Leaves Q (f s)) → Leaves Q (andThen o f)
-then-leaves P Q o f h g = go (o .ended) refl h
-  where
-    go : (e : Ended) → o .ended ≡ e → leavesAt P e (o .state) → Leaves Q (goOn e o f)
-    go Finished e h = g (o .state) h
-    go (Refused n) e h = rw e tt
-
-pub leaves-more : (P Q : Iic → Type 0) (o : Stepped) → Leaves P o → ((s : Iic) → P s → Q s) → Leaves Q o
-leaves-more P Q o h f = go (o .ended) h
-  where
-    go : (e : Ended) → leavesAt P e (o .state) → leavesAt Q e (o .state)
-    go Finished h = f (o .state) h
-    go (Refused n) h = tt
-
-pub half-leaves : (P : Iic → Type 0) (set : MaybeHalf → Iic → Iic) (w : NewHalf) (s : Iic) → ((v : HalfWait) → P (set (Half v) s)) → Leaves P (halfFrom set w s)
-half-leaves P set (half.Made v) s h = h v
-half-leaves P set (half.Refused n) s h = tt
 
 -- ## Every kick that isn't refused leaves a settled state
 
@@ -98,7 +51,7 @@ command-settles : (now : Time) (k : Domain) (c : Command) (s : Iic) → commandR
 unfolding startClockOf begunOf
 command-settles now k NoCommand s h e = absurd (false≢true (rw e at h))
 command-settles now k (Commanded start) s h e =
-    half-leaves Settled setClockWait (halfAfter now (periodOf (s .rates) (s .registers .control)) k) (begunOf start s) (λ v. in-condition _ (begun start))
+    half-leaves Settled setClockWait (halfAfter now (periodOf (s .rates) (s .registers .control)) k) (begunOf start s) (λ v i. in-condition _ (begun start))
 
 -- what holds of a state that a kick has given its frame
 record Framed (s : Iic) : Type 0 where
@@ -165,7 +118,7 @@ unfolding launchOf startClockOf lowHalfOf
 launch-settles now k f s true w r l p q = rw p (framed-settled _ r l (rw p (or-true (not (clockDue s)))))
 launch-settles now k f s false true r l p q = rw (p, q) (hold-settles s f (synchronous s) refl r l q)
 launch-settles now k f s false false r l p q =
-    rw (p, q) (half-leaves Settled setClockWait (halfAfter now (periodOf (s .rates) (s .registers .control)) k) (lowHalfOf (levelAt (f .phase) f (setFrame (InFrame f) s)) (setFrame (InFrame f) s)) (λ v.
+    rw (p, q) (half-leaves Settled setClockWait (halfAfter now (periodOf (s .rates) (s .registers .control)) k) (lowHalfOf (levelAt (f .phase) f (setFrame (InFrame f) s)) (setFrame (InFrame f) s)) (λ v i.
     framed-settled _ record { no-command = r .no-command; no-frame = refl } l
     (rw (beside-wait (master s) (not (held s)) (not (s .flags .«synchronized_hold»))))))
 
@@ -194,4 +147,4 @@ kick-settles now k s = kick-settles-at now k s (ready s) (commandReady s) refl r
 
 -- a call that ends in a kick
 pub then-kick : (now : Time) (k : Domain) (o : Stepped) → Settles (andThen o (kickOf now k))
-then-kick now k o = then-leaves Any Settled o (kickOf now k) (any o) (λ s h. kick-settles now k s)
+then-kick now k o = then-leaves (λ s. Unit {0}) Settled o (kickOf now k) (left (λ s. Unit {0}) o tt) (λ s h. kick-settles now k s)

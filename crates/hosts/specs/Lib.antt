@@ -4,7 +4,7 @@ pub mod Rows
 pub mod ClockRows
 pub mod PastRefusal
 pub mod Invariant
-pub mod Masks
+pub mod Left
 pub mod Kicked
 pub mod Kept
 pub mod Agree

@@ -17,6 +17,8 @@ pub mod Edges
 pub mod Clocking
 pub mod Reading
 pub mod Writing
+pub mod Timing
+pub mod TimingLaws
 pub mod AnswerLaws
 pub mod EdgeLaws
 pub mod SetupLaws

@@ -1,5 +1,4 @@
 -- Laws: what the filter brings leaves the setup's wait alone. Assumes nothing.
-use Prim.Native.Nat.{ℕ}
 use Rattle.bus.specs.declared.Levels.{Levels}
 use Rattle.clocks.specs.declared.domain.Domain.{Domain}
 use Rattle.clocks.specs.declared.wait.Deadline.{Deadline}
@@ -12,19 +11,19 @@ use Rattle.frames.specs.declared.Phase.the-variants.{Ack, Data, Done}
 use Rattle.frames.specs.declared.Phase.{Phase}
 use Rattle.iic.specs.Answers.{andThen, goOn}
 use Rattle.iic.specs.Clocking.{filterFiresOf, fireFilterOf, firing}
-use Rattle.iic.specs.Conditions.{beginAddressOf, begunOf, busEdgeOf, busStartOf, busStopOf, raisedAt, raisedOf, releaseSdaOf}
+use Rattle.iic.specs.Conditions.{begunOf, busEdgeOf, raisedOf}
 use Rattle.iic.specs.Edges.{conditionStepOf, fallAckOf, fallAt, fallIn, fallOf, fallOn, fallingOf, filteredEdgesOf, insertWaitOf, longer, sclEdgeOf, stretchEndsOf}
-use Rattle.iic.specs.Falls.{acknowledgeOf, endFrameOf, endIn, fallDataIn, fallDataOf, fallIdleOf, fallTakenOf, followIn, followOf, holdReceiveOf, holdTransmitOf}
+use Rattle.iic.specs.Falls.{endFrameOf, fallDataOf, fallIdleOf, fallTakenOf, followOf}
 use Rattle.iic.specs.Filter.{filterPassOf}
 use Rattle.iic.specs.Kick.{beginConditionOf, clockFrameOf, commandIn, kickOf, launchIn, launchOf}
 use Rattle.iic.specs.Ready.{lowHalfOf, nextFrameOf}
 use Rattle.iic.specs.Setters.{setFilterWait}
-use Rattle.iic.specs.Shift.{acknowledgedOf, addressedOf, arbitrationLostOf, beginFrameOf, completeFrameOf, drainedOf, endSynchronousOf, finishedOf, lastBitOf, loadIn, loadTransmitOf, matchedOf, overrunOf, receivedOf, risingAckOf, risingAt, risingDataOf, risingIn, risingOf, selectOf, setHoldOf, storedOf, whenLostOf}
+use Rattle.iic.specs.Shift.{loadTransmitOf, risingOf, setHoldOf}
+use Rattle.iic.specs.Timing.{Dropping}
+use Rattle.iic.specs.TimingLaws.{begun, bus-edge, end-frame, fall-data, fall-idle, fall-taken, follow, hold, load, next-frame, raised, rising}
 use Rattle.iic.specs.Waiting.{clockFrom, filterFrom, scheduleFilterOf, startClockOf, turnClockOf, turnHalfIn}
 use Rattle.iic.specs.declared.Command.the-variants.{Commanded, NoCommand}
 use Rattle.iic.specs.declared.Command.{Command}
-use Rattle.iic.specs.declared.Condition.the-variants.{NoCondition, StartHigh, StartHold, StartRelease, StopDetect, StopHigh, StopLow, StopRelease}
-use Rattle.iic.specs.declared.Condition.{Condition}
 use Rattle.iic.specs.declared.Ended.the-variants as ended
 use Rattle.iic.specs.declared.Ended.{Ended}
 use Rattle.iic.specs.declared.Hold.{Hold}
@@ -45,10 +44,6 @@ use mathlib.Core.Path.{_≡_, _∙_, refl}
 
 -- ## By a test
 
-setup-by : (b : Bool) (x y : Iic) → cond b x y .«setup_wait» ≡ cond b (x .«setup_wait») (y .«setup_wait»)
-setup-by true x y = refl
-setup-by false x y = refl
-
 state-by : (b : Bool) (x y : Stepped) → cond b x y .state .«setup_wait» ≡ cond b (x .state .«setup_wait») (y .state .«setup_wait»)
 state-by true x y = refl
 state-by false x y = refl
@@ -64,127 +59,46 @@ then-kept o f k = go (o .ended)
     go ended.Finished = k (o .state)
     go (ended.Refused n) = refl
 
--- ## The shifter
+-- ## Steps that ask no clock
 
-load-in : (fr : Framing) (s : Iic) → loadIn fr s .«setup_wait» ≡ s .«setup_wait»
-load-in NoFrame s = refl
-load-in (InFrame f) s = simp (setup-by, both)
+left : (w : MaybeWait) → Dropping (λ t. t .setup ≡ w)
+left w = record { monitor = λ x h t e. e; both = λ x h t e. e }
 
-load-transmit : (s : Iic) → loadTransmitOf s .«setup_wait» ≡ s .«setup_wait»
-unfolding loadTransmitOf
-load-transmit s = load-in (s .frame) s
+load-left : (s : Iic) → loadTransmitOf s .«setup_wait» ≡ s .«setup_wait»
+load-left s = load (left (s .«setup_wait»)) s refl
 
-begin-frame : (address : Bool) (s : Iic) → beginFrameOf address s .«setup_wait» ≡ s .«setup_wait»
-unfolding beginFrameOf
-begin-frame address s = load-transmit _
+hold-left : (x : Hold) (s : Iic) → setHoldOf x s .«setup_wait» ≡ s .«setup_wait»
+hold-left x s = hold (left (s .«setup_wait»)) x s refl
 
-when-lost : (lost : Bool) (s : Iic) → whenLostOf lost s .«setup_wait» ≡ s .«setup_wait»
-unfolding whenLostOf arbitrationLostOf
-when-lost lost s = simp (setup-by, both)
+rising-left : (sda : Bool) (s : Iic) → risingOf sda s .«setup_wait» ≡ s .«setup_wait»
+rising-left sda s = rising (left (s .«setup_wait»)) sda s refl
 
-set-hold : (x : Hold) (s : Iic) → setHoldOf x s .«setup_wait» ≡ s .«setup_wait»
-unfolding setHoldOf
-set-hold x s = simp (setup-by, both)
+bus-edge-left : (old : Levels) (s : Iic) → busEdgeOf old s .«setup_wait» ≡ s .«setup_wait»
+bus-edge-left old s = bus-edge (left (s .«setup_wait»)) old s refl
 
-acknowledged : (sda : Bool) (s : Iic) → acknowledgedOf sda s .«setup_wait» ≡ s .«setup_wait»
-unfolding acknowledgedOf
-acknowledged sda s = simp (setup-by, both)
+begun-left : (start : Bool) (s : Iic) → begunOf start s .«setup_wait» ≡ s .«setup_wait»
+begun-left start s = begun (left (s .«setup_wait»)) start s refl
 
-received : (b : ℕ) (s : Iic) → receivedOf b s .«setup_wait» ≡ s .«setup_wait»
-unfolding receivedOf overrunOf storedOf
-received b s = simp (setup-by, both)
+raised-left : (s : Iic) → raisedOf s .«setup_wait» ≡ s .«setup_wait»
+raised-left s = raised (left (s .«setup_wait»)) s (λ x. refl)
 
-complete-frame : (f : Frame) (sda : Bool) (s : Iic) → completeFrameOf f sda s .«setup_wait» ≡ s .«setup_wait»
-unfolding completeFrameOf drainedOf
-complete-frame f sda s = simp (setup-by, both, acknowledged, received)
+end-left : (s : Iic) → endFrameOf s .«setup_wait» ≡ s .«setup_wait»
+end-left s = end-frame (left (s .«setup_wait»)) s refl
 
-matched : (b : ℕ) (s : Iic) → matchedOf b s .«setup_wait» ≡ s .«setup_wait»
-unfolding matchedOf selectOf
-matched b s = simp (setup-by, both)
+follow-left : (s : Iic) → followOf s .«setup_wait» ≡ s .«setup_wait»
+follow-left s = follow (left (s .«setup_wait»)) s refl
 
-addressed : (f : Frame) (s : Iic) → addressedOf f s .«setup_wait» ≡ s .«setup_wait»
-unfolding addressedOf
-addressed f s = simp (setup-by, both, matched)
+fall-data-left : (s : Iic) → fallDataOf s .«setup_wait» ≡ s .«setup_wait»
+fall-data-left s = fall-data (left (s .«setup_wait»)) s refl
 
-finished : (last : Bool) (s : Iic) → finishedOf last s .«setup_wait» ≡ s .«setup_wait»
-unfolding finishedOf
-finished last s = simp (setup-by, both)
+fall-taken-left : (f : Frame) (now : Time) (s : Iic) → fallTakenOf f now s .«setup_wait» ≡ s .«setup_wait»
+fall-taken-left f now s = fall-taken (left (s .«setup_wait»)) f now s refl
 
-end-synchronous : (f : Frame) (sda : Bool) (s : Iic) → endSynchronousOf f sda s .«setup_wait» ≡ s .«setup_wait»
-unfolding endSynchronousOf
-end-synchronous f sda s = simp (finished, complete-frame)
+fall-idle-left : (s : Iic) → fallIdleOf s .«setup_wait» ≡ s .«setup_wait»
+fall-idle-left s = fall-idle (left (s .«setup_wait»)) s refl
 
-last-bit : (f : Frame) (sda : Bool) (s : Iic) → lastBitOf f sda s .«setup_wait» ≡ s .«setup_wait»
-unfolding lastBitOf
-last-bit f sda s = simp (setup-by, both, end-synchronous, addressed)
-
-rising-data : (f : Frame) (sda : Bool) (s : Iic) → risingDataOf f sda s .«setup_wait» ≡ s .«setup_wait»
-unfolding risingDataOf
-rising-data f sda s = simp (setup-by, both, last-bit, when-lost)
-
-rising-at : (p : Phase) (f : Frame) (sda : Bool) (s : Iic) → risingAt p f sda s .«setup_wait» ≡ s .«setup_wait»
-unfolding risingAckOf
-rising-at Data f sda s = rising-data f sda s
-rising-at Ack f sda s = complete-frame f sda s
-rising-at Done f sda s = refl
-
-rising-in : (fr : Framing) (sda : Bool) (s : Iic) → risingIn fr sda s .«setup_wait» ≡ s .«setup_wait»
-rising-in NoFrame sda s = refl
-rising-in (InFrame f) sda s = simp (setup-by, both, rising-at)
-
-rising : (sda : Bool) (s : Iic) → risingOf sda s .«setup_wait» ≡ s .«setup_wait»
-unfolding risingOf
-rising sda s = rising-in (s .frame) sda s
-
--- ## Starts and stops of the bus
-
-bus-stop : (s : Iic) → busStopOf s .«setup_wait» ≡ s .«setup_wait»
-unfolding busStopOf releaseSdaOf
-bus-stop s = simp (setup-by, both)
-
-bus-start : (s : Iic) → busStartOf s .«setup_wait» ≡ s .«setup_wait»
-unfolding busStartOf beginAddressOf
-bus-start s = simp (setup-by, both, begin-frame, when-lost)
-
-bus-edge : (old : Levels) (s : Iic) → busEdgeOf old s .«setup_wait» ≡ s .«setup_wait»
-unfolding busEdgeOf
-bus-edge old s = simp (setup-by, both, bus-stop, bus-start)
-
-raised-at : (x : Condition) (s : Iic) → raisedAt x s .«setup_wait» ≡ s .«setup_wait»
-raised-at NoCondition s = refl
-raised-at StartRelease s = refl
-raised-at StartHigh s = refl
-raised-at StartHold s = refl
-raised-at StopLow s = refl
-raised-at StopHigh s = refl
-raised-at StopRelease s = refl
-raised-at StopDetect s = refl
-
--- ## The falling clock
-
-end-in : (fr : Framing) (s : Iic) → endIn fr s .«setup_wait» ≡ s .«setup_wait»
-end-in NoFrame s = refl
-end-in (InFrame f) s = simp (setup-by, both)
-
-follow-in : (fr : Framing) (s : Iic) → followIn fr s .«setup_wait» ≡ s .«setup_wait»
-follow-in NoFrame s = refl
-follow-in (InFrame f) s = simp (setup-by, both)
-
-hold-transmit : (s : Iic) → holdTransmitOf s .«setup_wait» ≡ s .«setup_wait»
-unfolding holdTransmitOf
-hold-transmit s = simp (setup-by, both, set-hold)
-
-fall-data-in : (fr : Framing) (s : Iic) → fallDataIn fr s .«setup_wait» ≡ s .«setup_wait»
-fall-data-in NoFrame s = refl
-fall-data-in (InFrame f) s = simp (setup-by, both, hold-transmit)
-
-hold-receive : (f : Frame) (s : Iic) → holdReceiveOf f s .«setup_wait» ≡ s .«setup_wait»
-unfolding holdReceiveOf
-hold-receive f s = simp (setup-by, both, set-hold)
-
-next-frame : (s : Iic) → nextFrameOf s .«setup_wait» ≡ s .«setup_wait»
-unfolding nextFrameOf
-next-frame s = simp (setup-by, both, begin-frame)
+next-frame-left : (s : Iic) → nextFrameOf s .«setup_wait» ≡ s .«setup_wait»
+next-frame-left s = next-frame (left (s .«setup_wait»)) s refl
 
 -- ## Steps in time
 
@@ -209,33 +123,30 @@ longer-in NoHalf s = refl
 longer-in (Half v) s = simp clock-from
 
 fall-ack : (f : Frame) (now : Time) (s : Iic) → fallAckOf f now s .state .«setup_wait» ≡ s .«setup_wait»
-unfolding fallAckOf insertWaitOf fallTakenOf acknowledgeOf
-fall-ack f now s = simp (state-by, both, longer-in, hold-receive)
+unfolding fallAckOf insertWaitOf
+fall-ack f now s = simp (state-by, both, longer-in, fall-taken-left)
 
 fall-at : (p : Phase) (f : Frame) (now : Time) (s : Iic) → fallAt p f now s .state .«setup_wait» ≡ s .«setup_wait»
-unfolding fallDataOf
-fall-at Data f now s = simp (fall-data-in, load-transmit)
+fall-at Data f now s = simp (fall-data-left, load-left)
 fall-at Ack f now s = fall-ack f now s
 fall-at Done f now s = refl
 
 fall-in : (fr : Framing) (now : Time) (s : Iic) → fallIn fr now s .state .«setup_wait» ≡ s .«setup_wait»
-unfolding fallIdleOf
-fall-in NoFrame now s = simp (setup-by, both)
+fall-in NoFrame now s = fall-idle-left s
 fall-in (InFrame f) now s = fall-at (f .phase) f now s
 
 fall-on : (now : Time) (s : Iic) → fallOn now s .state .«setup_wait» ≡ s .«setup_wait»
-unfolding fallOf followOf
-fall-on now s = simp (fall-in, follow-in)
+unfolding fallOf
+fall-on now s = simp (fall-in, follow-left)
 
 command-in : (x : Command) (now : Time) (d : Domain) (s : Iic) → commandIn x now d s .state .«setup_wait» ≡ s .«setup_wait»
-unfolding begunOf
 command-in NoCommand now d s = refl
-command-in (Commanded start) now d s = simp start-clock
+command-in (Commanded start) now d s = simp (start-clock, begun-left)
 
 launch-in : (fr : Framing) (now : Time) (d : Domain) (s : Iic) → launchIn fr now d s .state .«setup_wait» ≡ s .«setup_wait»
 unfolding launchOf lowHalfOf
 launch-in NoFrame now d s = refl
-launch-in (InFrame f) now d s = simp (state-by, both, set-hold, start-clock)
+launch-in (InFrame f) now d s = simp (state-by, both, hold-left, start-clock)
 
 clock-frame : (now : Time) (d : Domain) (s : Iic) → clockFrameOf now d s .state .«setup_wait» ≡ s .«setup_wait»
 unfolding clockFrameOf
@@ -243,31 +154,31 @@ clock-frame now d s = simp (state-by, both, launch-in)
 
 kick : (now : Time) (d : Domain) (s : Iic) → kickOf now d s .state .«setup_wait» ≡ s .«setup_wait»
 unfolding kickOf beginConditionOf
-kick now d s = simp (state-by, both, command-in, clock-frame, load-transmit, next-frame)
+kick now d s = simp (state-by, both, command-in, clock-frame, load-left, next-frame-left)
 
 falling : (now : Time) (d : Domain) (s : Iic) → fallingOf now d s .state .«setup_wait» ≡ s .«setup_wait»
-unfolding fallingOf endFrameOf
+unfolding fallingOf
 falling now d s =
-    simp (state-by, both, kick, then-kept (kickOf now d (endIn (s .frame) s)) (fallOn now) (fall-on now), end-in)
+    simp (state-by, both, kick, then-kept (kickOf now d (endFrameOf s)) (fallOn now) (fall-on now), end-left)
 
 stretch-ends : (now : Time) (d : Domain) (s : Iic) → stretchEndsOf now d s .state .«setup_wait» ≡ s .«setup_wait»
 unfolding stretchEndsOf turnClockOf
 stretch-ends now d s = simp (state-by, both, turn-in)
 
 condition-step : (now : Time) (d : Domain) (s : Iic) → conditionStepOf now d s .state .«setup_wait» ≡ s .«setup_wait»
-unfolding conditionStepOf raisedOf
-condition-step now d s = simp (state-by, both, start-clock, raised-at)
+unfolding conditionStepOf
+condition-step now d s = simp (state-by, both, start-clock, raised-left)
 
 scl-edge : (was : Bool) (now : Time) (d : Domain) (s : Iic) → sclEdgeOf was now d s .state .«setup_wait» ≡ s .«setup_wait»
 unfolding sclEdgeOf
-scl-edge was now d s = simp (state-by, both, rising, falling)
+scl-edge was now d s = simp (state-by, both, rising-left, falling)
 
 filtered-edges : (old : Levels) (now : Time) (d : Domain) (s : Iic) → filteredEdgesOf old now d s .state .«setup_wait» ≡ s .«setup_wait»
 unfolding filteredEdgesOf
 filtered-edges old now d s =
     let o : Stepped = stretchEndsOf now d (busEdgeOf old s) in
     let p : Stepped = andThen o (conditionStepOf now d) in
-    simp (state-by, both, then-kept p (sclEdgeOf (old .scl) now d) (scl-edge (old .scl) now d), then-kept o (conditionStepOf now d) (condition-step now d), stretch-ends, bus-edge)
+    simp (state-by, both, then-kept p (sclEdgeOf (old .scl) now d) (scl-edge (old .scl) now d), then-kept o (conditionStepOf now d) (condition-step now d), stretch-ends, bus-edge-left)
 
 schedule-filter : (now : Time) (d : Domain) (s : Iic) → scheduleFilterOf now d s .state .«setup_wait» ≡ s .«setup_wait»
 unfolding scheduleFilterOf

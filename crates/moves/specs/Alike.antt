@@ -19,6 +19,7 @@ use Rattle.waits.specs.declared.MaybeHalf.{MaybeHalf}
 use Rattle.waits.specs.declared.MaybeHalf.the-variants.{NoHalf, Half}
 use Rattle.waits.specs.declared.MaybeWait.{MaybeWait}
 use Rattle.waits.specs.declared.MaybeWait.the-variants.{NoWait, Waiting}
+use Rattle.iic.specs.Timing.{Timing, timingOf}
 use Rattle.iic.specs.declared.Iic.{Iic}
 use Rattle.time.specs.declared.Count.{Count}
 use Rattle.time.specs.declared.Count.the-variants as count
@@ -74,8 +75,11 @@ AheadWait k k′ NoWait = Unit {0}
 AheadWait k k′ (Waiting w) = AheadState k k′ (w .tap) (w .state)
 
 -- all four: the clock's, the monitor's, the filter's and the setup's
+abbrev pub AheadIn : Clocks → Clocks → ℕ → Timing → Type 0
+AheadIn k k′ o t = AheadHalf o (t .clock) × AheadHalf o (t .monitor) × AheadWait k k′ (t .filter) × AheadWait k k′ (t .setup)
+
 abbrev pub Ahead : Clocks → Clocks → ℕ → Iic → Type 0
-Ahead k k′ o s = AheadHalf o (s .«clock_wait») × AheadHalf o (s .«monitor_wait») × AheadWait k k′ (s .«filter_wait») × AheadWait k k′ (s .«setup_wait»)
+Ahead k k′ o s = AheadIn k k′ o (timingOf s)
 
 -- ## New waits: a refused one is none
 

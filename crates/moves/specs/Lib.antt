@@ -1,7 +1,6 @@
 pub mod Statement
 pub mod Alike
 pub mod Waits
-pub mod NoClock
 pub mod Steps
 pub mod Agree
 pub mod Sets

@@ -1,8 +1,7 @@
 -- Laws: a clock whose start was moved up to a time before the last one is alike from there on (document 02, (k)). Assumes nothing.
-use Prim.Native.Nat.{ℕ, _+_, _-_, _*_, _/_, _^_, _≤_, _<_}
+use Prim.Native.Nat.{ℕ, _+_, _-_, _*_, _^_, _≤_, _<_}
 use mathlib.Core.Bool.{Bool, true, false, cond}
 use mathlib.Core.Path.{_≡_, refl, sym, _∙_, ap, subst}
-use native.Mathlib.Nat.{add-div-right, one-mul}
 use native.Mathlib.Omega.{arith}
 use mathlib.Core.Logic.{⊎-elim}
 use borrow.Author.Tests.{ltb-false}
@@ -12,9 +11,10 @@ use Rattle.time.specs.declared.Count.{Count}
 use Rattle.time.specs.declared.Count.the-variants as count
 use Rattle.time.specs.declared.Moment.the-variants as moment
 use Rattle.time.specs.declared.Clock.{Clock}
-use Rattle.time.specs.Clock.{afterOf, edgeOf, edgesBefore, edgesBeforeOf, movedBy, span, startAfter, zeroIn}
-use Rattle.time.specs.Laws.{after-is, edge-start, edges-before-ge, lt-or-le, moment-at, next-last, next-later, time-of-from}
-use Rattle.time.specs.MoveLaws.{count-moved, div-grows, edge-moved, moved-sound, sound-parts, span-grows, spans}
+use Rattle.time.specs.Clock.{afterOf, edgeOf, edgesBefore, edgesBeforeOf, movedBy, startAfter, zeroIn}
+use Rattle.time.specs.Laws.{after-is, edge-start, edges-before-ge, lt-or-le, moment-at, next-last, next-later, no-zero, time-of-from}
+use Rattle.time.specs.MoveLaws.{count-moved, edge-moved, moved-sound}
+use Rattle.time.specs.NextLaws.{edge-steps}
 use Rattle.time.specs.Time.{momentOf, nextTime, timeFrom, timeOf}
 use Rattle.moves.specs.Statement.{From}
 use Rattle.moves.specs.Alike.{Early, EdgesAlike}
@@ -27,26 +27,10 @@ countedAt c now = edgesBeforeOf c (nextTime now)
 abbrev movedStart : ℕ → Clock → Time
 movedStart n c = timeFrom (startAfter n c)
 
--- a clock whose edges are all at different times: a frequency of less than 2 ^ 64 Hz
-div-steps : (h a b : ℕ) → 0 < h → a + h ≤ b → a / h < b / h
-div-steps h a b pos le = let more : a / h + 1 ≤ b / h = subst (λ (x : ℕ). x ≤ b / h) (add-div-right a pos) (div-grows h (a + h) b pos le) in omega arith
-
-pub edge-steps : (c : Clock) (j k : ℕ) → 0 < c .numerator → c .numerator ≤ c .denominator * 2 ^ 64 → c .ordinal ≤ j → j < k → edgeOf c j < edgeOf c k
-unfolding edgeOf
-edge-steps c j k pos slow from less =
-    let x : ℕ = j - c .ordinal in
-    let one : c .denominator * 2 ^ 64 + span c x ≡ span c (x + 1) = ap (λ (y : ℕ). y * 2 ^ 64 + span c x) (sym (one-mul (c .denominator))) ∙ spans c x 1 in
-    let rest : span c (x + 1) ≤ span c (k - c .ordinal) = span-grows c (x + 1) (k - c .ordinal) (omega arith) in
-    let step : span c x / c .numerator < span c (k - c .ordinal) / c .numerator = div-steps (c .numerator) (span c x) (span c (k - c .ordinal)) pos (room (span c x) slow one rest) in
-    omega (arith, step)
-  where
-    room : {h d b e : ℕ} (a : ℕ) → h ≤ d → d + a ≡ b → b ≤ e → a + h ≤ e
-    room a p q r = omega arith
-
 -- a clock moved to a time before the last one is alike from there on
 module _ (c : Clock) (n : ℕ) (sound : zeroIn c ≡ false) (ordinal : c .ordinal + n ≤ 2 ^ 64 - 1) (early : startAfter n c + 1 < 2 ^ 128) where
   pos : 0 < c .numerator
-  pos = sound-parts c sound .0
+  pos = no-zero c sound .0
 
   -- the new start is before the limit of every time from it on
   within : (now : Time) → From (movedStart n c) now → startAfter n c < timeOf (nextTime now)

@@ -3,7 +3,6 @@ use Prim.Native.Nat.{ℕ, suc, _+_, _-_, _*_, _^_, _≤_, _<_}
 use mathlib.Core.Bool.{Bool, true, false, cond}
 use mathlib.Core.List.{List}
 use mathlib.Core.Path.{_≡_, refl, sym, _∙_, ap, subst}
-use native.Mathlib.Nat.{le-trans, mul-le-mul-right, one-mul}
 use native.Mathlib.Omega.{arith}
 use borrow.Author.Tests.{ltb-true}
 use lib.Dec.{ltb}
@@ -12,6 +11,7 @@ use Rattle.time.specs.declared.NewClock.the-variants.{Made as made, Refused as 
 use Rattle.time.specs.Clock.{inWidth, moveOf, movedBy, startAfter, zeroIn}
 use Rattle.time.specs.Laws.{no-zero, time-of-from}
 use Rattle.time.specs.MoveLaws.{moved-sound}
+use Rattle.time.specs.NextLaws.{slow}
 use Rattle.time.specs.Time.{timeOf}
 use Rattle.time.specs.Truths.{and-right}
 use Rattle.clocks.specs.declared.Clocks.{Clocks}
@@ -48,13 +48,6 @@ moved-parts k k′ n e = go (hasZero k) refl e
         width : (w : Bool) → inWidth n (k .system .clock) ≡ w → movedIn k (cond w (made (movedBy n (k .system .clock))) (refused 7)) ≡ record { refusal = 0; clocks = k′ } → Parts n k k′
         width true q g = record { free = p; width = q; is = ap (λ (x : NewClocks). x .clocks) g }
         width false q g = absurd (some 6 k k′ g)
-
--- less than 2 ^ 64 Hz
-slow : (h d : ℕ) → h < 2 ^ 64 → 0 < d → h ≤ d * 2 ^ 64
-slow h d less pos = le-trans (down less) (subst (λ (x : ℕ). x ≤ d * 2 ^ 64) (one-mul (2 ^ 64)) (mul-le-mul-right (2 ^ 64) pos))
-  where
-    down : {x y : ℕ} → x < y → x ≤ y
-    down h = omega arith
 
 pub moved-runs : MovedRuns
 unfolding movedBy

@@ -17,6 +17,7 @@ use Rattle.time.specs.declared.Moment.{Moment}
 use Rattle.time.specs.declared.Moment.the-variants.{At, Refused as Unset}
 use Rattle.time.specs.declared.Time.{Time}
 use Rattle.time.specs.Clock.{afterOf, edgesBeforeOf, zeroIn}
+use Rattle.time.specs.NextLaws.{same-of, uncounted-not-of}
 use Rattle.time.specs.Time.{nextTime}
 use Rattle.time.specs.Truths.{and-left, and-right}
 use Rattle.clocks.specs.Clocks.{availableOf, fedBy, hasZero, routedEdge, routedTicks, sourceOf, tapEdge, tapTicks}
@@ -44,30 +45,24 @@ use Rattle.moves.specs.Alike.{Alike, ClocksAlike, Other}
 
 -- ## Dividers: an edge after those counted is an edge of the source after those counted
 
-counted-of : (a b : ℕ) → Of a ≡ Of b → a ≡ b
-counted-of a b e = cc
-
-never-counted : (r n : ℕ) → Refused r ≡ Of n → ⊥
-never-counted r n e = let z : _≡_ {A = ℕ} 0 1 = cc in omega arith
-
 -- a sum that fits is the number itself
 fits-is : (a b : ℕ) → fits a ≡ Of b → a ≡ b
 unfolding fits
 fits-is a b = go (ltb a (2 ^ 64))
   where
     go : (t : Bool) → cond t (Of a) (Refused 7) ≡ Of b → a ≡ b
-    go true e = counted-of a b e
-    go false e = absurd (never-counted 7 b e)
+    go true e = same-of e
+    go false e = absurd (uncounted-not-of e)
 
 direct-later : (k : Clocks) (d t n m x : ℕ) → routedTicks k d t Direct ≡ Of n → n < m → routedEdge k d m Direct ≡ Of x → t < x
 unfolding routedTicks routedEdge
 direct-later k d t n m x e less f = go (eqb d 0) refl e
   where
     go : (z : Bool) → eqb d 0 ≡ z → cond z (Refused 2) (Of (t / d)) ≡ Of n → t < x
-    go true g h = absurd (never-counted 2 n h)
+    go true g h = absurd (uncounted-not-of h)
     go false g h =
         let ne : d ≡ 0 → ⊥ = eqb-false d 0 g in
-        let q : t / d ≡ n = counted-of (t / d) n h in
+        let q : t / d ≡ n = same-of h in
         let p : m * d ≡ x = fits-is (m * d) x f in
         let over : t < m * d = div-lt-iff-lt-mul {k = d} {x = t} {y = m} (omega arith) .0 (omega arith) in
         omega arith
@@ -89,16 +84,16 @@ through-later p emitted t n m s x runs e less f = out (outside 13 s) (rw runs at
     low = p .phase % 2 ^ s
 
     late : (b : Bool) → ltb (p .anchor) low ≡ b → given + (low + (t - p .anchor)) / 2 ^ s ≡ n → cond b (Refused 7) (fits (p .anchor - low + (m - given) * 2 ^ s)) ≡ Of x → t < x
-    late true g h i = absurd (never-counted 7 x i)
+    late true g h i = absurd (uncounted-not-of i)
     late false g h i = stage-later (p .anchor) low given t m (2 ^ s) x (pow-pos s) (ltb-false (p .anchor) low g) (omega arith) (fits-is _ x i)
 
     past : (b : Bool) → given + (low + (t - p .anchor)) / 2 ^ s ≡ n → cond b (Refused 8) (cond (ltb (p .anchor) low) (Refused 7) (fits (p .anchor - low + (m - given) * 2 ^ s))) ≡ Of x → t < x
-    past true h i = absurd (never-counted 8 x i)
+    past true h i = absurd (uncounted-not-of i)
     past false h i = late (ltb (p .anchor) low) refl h i
 
     out : (b : Bool) → cond b (Refused 3) (fits (given + (low + (t - p .anchor)) / 2 ^ s)) ≡ Of n
         → cond b (Refused 3) (cond (ltb m given) (Refused 8) (cond (ltb (p .anchor) low) (Refused 7) (fits (p .anchor - low + (m - given) * 2 ^ s)))) ≡ Of x → t < x
-    out true h i = absurd (never-counted 3 n h)
+    out true h i = absurd (uncounted-not-of h)
     out false h i = past (ltb m given) (fits-is _ n h) i
 
 -- ## Which taps of the system clock go through prescaler S
@@ -166,7 +161,7 @@ module _ (k : Clocks) (c : Clock) (s : Time) (o : ℕ) (zeros : zeroIn (k .syste
   system-counted now n from e = go (zeroIn (k .system .clock)) (sym (running-ticks (k .system) now runs) ∙ e)
     where
       go : (z : Bool) → cond z (Refused 1) (edgesBeforeOf (k .system .clock) (nextTime now)) ≡ Of n → o ≤ n
-      go true f = absurd (never-counted 1 n f)
+      go true f = absurd (uncounted-not-of f)
       go false f = clocks .counts-from now n from f
 
   source-ticks : (x : Source) (now : Time) → From s now → domainTicks (sourceOf k x) now ≡ domainTicks (sourceOf (withSystem c k) x) now
@@ -231,9 +226,9 @@ module _ (k : Clocks) (c : Clock) (s : Time) (o : ℕ) (zeros : zeroIn (k .syste
     where
       go : (z : Bool) (x : Count) → domainTicks (k .system) now ≡ x → cond z (Refused 1) (withCount x (λ t. routedTicks k d t (routeOf (systemTap d))) Refused) ≡ Of n
           → (t : ℕ) × (o ≤ t) × (routedTicks k d t (routeOf (systemTap d)) ≡ Of n)
-      go true x f g = absurd (never-counted 1 n g)
+      go true x f g = absurd (uncounted-not-of g)
       go false (Of t) f g = (t, system-counted now t from f, g)
-      go false (Refused r) f g = absurd (never-counted r n g)
+      go false (Refused r) f g = absurd (uncounted-not-of g)
 
   -- a tap that isn't available has no edges to come, whatever the clock
   pub idle-same : (d m : ℕ) → (k .system .running && fedBy k System d) ≡ false → edgeDeadline (systemTap d) k m ≡ edgeDeadline (systemTap d) (withSystem c k) m
@@ -308,16 +303,16 @@ module _ (k : Clocks) (c : Clock) (s : Time) (o : ℕ) (zeros : zeroIn (k .syste
   half-counts-from now n from e = go (domainTicks (k .system) now) refl e
     where
       level : (t : ℕ) (h : Truth) → o ≤ t → withTruth h (λ b. Of (2 * t + cond b 0 1)) Refused ≡ Of n → 2 * o ≤ n
-      level t (Is b) le f = let g : 2 * t + cond b 0 1 ≡ n = counted-of (2 * t + cond b 0 1) n f in omega arith
-      level t (Untold r) le f = absurd (never-counted r n f)
+      level t (Is b) le f = let g : 2 * t + cond b 0 1 ≡ n = same-of f in omega arith
+      level t (Untold r) le f = absurd (uncounted-not-of f)
 
       doubled : (t : ℕ) (b : Bool) → o ≤ t → cond b (withTruth (levelHigh (k .system) now t) (λ b. Of (2 * t + cond b 0 1)) Refused) (Refused 7) ≡ Of n → 2 * o ≤ n
       doubled t true le f = level t (levelHigh (k .system) now t) le f
-      doubled t false le f = absurd (never-counted 7 n f)
+      doubled t false le f = absurd (uncounted-not-of f)
 
       go : (x : Count) → domainTicks (k .system) now ≡ x → withCount x (halvesOf (k .system) now) Refused ≡ Of n → 2 * o ≤ n
       go (Of t) f g = doubled t (ltb t (2 ^ 63)) (system-counted now t from f) g
-      go (Refused r) f g = absurd (never-counted r n g)
+      go (Refused r) f g = absurd (uncounted-not-of g)
 
   half-edge : (m : ℕ) → 2 * o ≤ m → domainHalfEdge (k .system) m ≡ domainHalfEdge (withSystem c k .system) m
   unfolding domainHalfEdge

@@ -23,9 +23,10 @@ use Rattle.iic.specs.Ready.{clockDue, commandReady, levelAt, lowHalfOf, nextFra
 use Rattle.iic.specs.Setters.{setClockWait, setCommand, setFilterWait, setHold, setMonitorWait, setReset, setSetupWait, setSynchronizedHold}
 use Rattle.iic.specs.Shift.{loadTransmitOf, risingOf, setHoldOf}
 use Rattle.iic.specs.State.{commanded, conditioned, driveScl, enabled, held, isTransmitHold, master, stopShifterOf, transmits}
+use Rattle.iic.specs.Timing.{Dropping}
+use Rattle.iic.specs.TimingLaws.{begun, bus-edge, clocked, continued, end-frame, fall-data, fall-idle, fall-taken, follow, hold, load, next-frame, pull-sda, raised, rising, shown, take-control, write-mode}
 use Rattle.iic.specs.Waiting.{clockFrom, filterFrom, halfFrom, monitorFrom, scheduleFilterOf, setupFrom, startClockOf, startMonitorOf, startSetupOf, turnClockOf, turnFilterOf, turnHalfIn, turnMonitorOf, turnSetupOf, turnWaitIn, waitFrom, wantsFilter}
 use Rattle.iic.specs.Writing.{controlTaken, enterResetOf, giveDataOf, outOfResetOf, pullSdaOf, sendOnOf, stopReceiveOf, takeControlOf, takesCommand, writeAddressOf, writeAt, writeCommandOf, writeControlOf, writeDataOf, writeEnableOf, writeModeOf, writeStatusOf}
-use Rattle.moves.specs.NoClock.{begun-ahead, bus-ahead, clocked-ahead, continued-ahead, control-ahead, end-ahead, fall-data-ahead, fall-idle-ahead, fall-taken-ahead, follow-ahead, hold-ahead, load-ahead, mode-ahead, next-ahead, pull-ahead, raised-ahead, rising-ahead, show-ahead}
 use Rattle.moves.specs.Waits.{half-after, half-ends, half-turn, made-ahead, system-wait, wait-ends, wait-turn}
 use Rattle.bus.specs.declared.Levels.{Levels}
 use Rattle.time.specs.declared.Time.{Time}
@@ -58,7 +59,11 @@ use Rattle.iic.specs.declared.Ended.the-variants.{Finished, Refused}
 use Rattle.iic.specs.declared.Iic.{Iic}
 use Rattle.iic.specs.declared.Stepped.{Stepped}
 use Rattle.moves.specs.Statement.{From}
-use Rattle.moves.specs.Alike.{Ahead, AheadHalf, AheadWait, Alike, Both, HalfAlike, Keeps, KeepsOver, NewHalfAhead, NewWaitAhead, WaitAlike}
+use Rattle.moves.specs.Alike.{Ahead, AheadHalf, AheadIn, AheadWait, Alike, Both, HalfAlike, Keeps, KeepsOver, NewHalfAhead, NewWaitAhead, WaitAlike}
+
+-- the steps that ask no clock keep each wait or drop it
+dropping : (k k′ : Clocks) (o : ℕ) → Dropping (AheadIn k k′ o)
+dropping k k′ o = record { monitor = λ x h t a. (a .0, tt, a .2, a .3); both = λ x h t a. (tt, tt, a .2, a .3) }
 
 module _ {k k′ : Clocks} {o : ℕ} where
   -- a step that asks no clock
@@ -171,13 +176,13 @@ module _ (k k′ : Clocks) (s : Time) (o : ℕ) (alike : Alike k k′ s o) (now 
 
   command-in : (c : Command) → KeepsOver k k′ o (commandIn c now)
   command-in NoCommand u h = alone (fine u) h
-  command-in (Commanded start) u h = start-clock (begunOf start u) (begun-ahead k k′ o start u h)
+  command-in (Commanded start) u h = start-clock (begunOf start u) (begun (dropping k k′ o) start u h)
 
   launch : (f : Frame) → KeepsOver k k′ o (launchOf f now)
   unfolding launchOf lowHalfOf
   launch f u h =
       if-both (isDone (f .phase)) (alone (fine u) h)
-      (if-both (starved f) (alone (fine (setHoldOf Transmit u)) (hold-ahead k k′ o Transmit u h))
+      (if-both (starved f) (alone (fine (setHoldOf Transmit u)) (hold (dropping k k′ o) Transmit u h))
       (start-clock (lowHalfOf (levelAt (f .phase) f u) u) h))
 
   launch-in : (fr : Framing) → KeepsOver k k′ o (launchIn fr now)
@@ -188,7 +193,7 @@ module _ (k k′ : Clocks) (s : Time) (o : ℕ) (alike : Alike k k′ s o) (now 
   unfolding kickOf beginConditionOf clockFrameOf
   kick u h =
       if-both (not (ready u)) (alone (fine u) h)
-      (if-both (commandReady u) (command-in (u .command) u h) (framed (next) (load-ahead k k′ o (nextFrameOf u) (next-ahead k k′ o u h))))
+      (if-both (commandReady u) (command-in (u .command) u h) (framed (next) (load (dropping k k′ o) (nextFrameOf u) (next-frame (dropping k k′ o) u h))))
     where
       next : Iic
       next = loadTransmitOf (nextFrameOf u)
@@ -200,7 +205,7 @@ module _ (k k′ : Clocks) (s : Time) (o : ℕ) (alike : Alike k k′ s o) (now 
   unfolding releaseHoldOf waitAfterHoldOf
   release-hold u h =
       then-both (if-both (master u) (start-clock (setHold NoHold u) h) (start-setup (setHold NoHold u) h))
-      (λ v g. alone (fine (showOf v)) (show-ahead k k′ o v g))
+      (λ v g. alone (fine (showOf v)) (shown (dropping k k′ o) v g))
 
   -- ## What filtered levels bring
 
@@ -217,23 +222,23 @@ module _ (k k′ : Clocks) (s : Time) (o : ℕ) (alike : Alike k k′ s o) (now 
 
   fall-at : (p : Phase) (f : Frame) → KeepsOver k k′ o (λ x. fallAt p f now)
   unfolding fallAckOf
-  fall-at Data f u h = alone (fine (fallDataOf (loadTransmitOf u))) (fall-data-ahead k k′ o (loadTransmitOf u) (load-ahead k k′ o u h))
-  fall-at Ack f u h = insert-wait (fallTakenOf f now u) (fall-taken-ahead k k′ o f now u h)
+  fall-at Data f u h = alone (fine (fallDataOf (loadTransmitOf u))) (fall-data (dropping k k′ o) (loadTransmitOf u) (load (dropping k k′ o) u h))
+  fall-at Ack f u h = insert-wait (fallTakenOf f now u) (fall-taken (dropping k k′ o) f now u h)
   fall-at Done f u h = alone (fine u) h
 
   fall-in : (fr : Framing) → KeepsOver k k′ o (λ x. fallIn fr now)
-  fall-in NoFrame u h = alone (fine (fallIdleOf u)) (fall-idle-ahead k k′ o u h)
+  fall-in NoFrame u h = alone (fine (fallIdleOf u)) (fall-idle (dropping k k′ o) u h)
   fall-in (InFrame f) u h = fall-at (f .phase) f u h
 
   fall-on : KeepsOver k k′ o (λ x. fallOn now)
   unfolding fallOf
-  fall-on u h = fall-in (followOf u .frame) (followOf u) (follow-ahead k k′ o u h)
+  fall-on u h = fall-in (followOf u .frame) (followOf u) (follow (dropping k k′ o) u h)
 
   falling : KeepsOver k k′ o (fallingOf now)
   unfolding fallingOf
   falling u h =
       if-both (conditioned u) (alone (fine u) h)
-      (if-both (commanded u) (kick u h) (then-both (kick (endFrameOf u) (end-ahead k k′ o u h)) fall-on))
+      (if-both (commanded u) (kick u h) (then-both (kick (endFrameOf u) (end-frame (dropping k k′ o) u h)) fall-on))
 
   stretch-ends : KeepsOver k k′ o (stretchEndsOf now)
   unfolding stretchEndsOf
@@ -244,13 +249,13 @@ module _ (k k′ : Clocks) (s : Time) (o : ℕ) (alike : Alike k k′ s o) (now 
   condition-step : KeepsOver k k′ o (conditionStepOf now)
   unfolding conditionStepOf
   condition-step u h =
-      if-both (conditionHigh u) (start-clock (raisedOf u) (raised-ahead k k′ o u h)) (alone (fine u) h)
+      if-both (conditionHigh u) (start-clock (raisedOf u) (raised (dropping k k′ o) u (λ x. h))) (alone (fine u) h)
 
   scl-edge : (was : Bool) → KeepsOver k k′ o (sclEdgeOf was now)
   unfolding sclEdgeOf
   scl-edge was u h =
       if-both (not was && u .lines .filtered .scl)
-      (alone (fine (risingOf (u .lines .filtered .sda) u)) (rising-ahead k k′ o (u .lines .filtered .sda) u h))
+      (alone (fine (risingOf (u .lines .filtered .sda) u)) (rising (dropping k k′ o) (u .lines .filtered .sda) u h))
       (if-both (was && not (u .lines .filtered .scl)) (falling u h) (alone (fine u) h))
 
   edges-from : (was : Bool) → KeepsOver k k′ o (edgesFrom was now)
@@ -259,7 +264,7 @@ module _ (k k′ : Clocks) (s : Time) (o : ℕ) (alike : Alike k k′ s o) (now 
 
   filtered-edges : (old : Levels) → KeepsOver k k′ o (filteredEdgesOf old now)
   unfolding filteredEdgesOf
-  filtered-edges old u h = edges-from (old .scl) (busEdgeOf old u) (bus-ahead k k′ o old u h)
+  filtered-edges old u h = edges-from (old .scl) (busEdgeOf old u) (bus-edge (dropping k k′ o) old u h)
 
   -- ## What each wait brings
 
@@ -278,7 +283,7 @@ module _ (k k′ : Clocks) (s : Time) (o : ℕ) (alike : Alike k k′ s o) (now 
       (if-both (isStartHold (u .condition)) (start-clock (clockedOf u) gone) (alone (fine (clockedOf u)) gone))
     where
       gone : Ahead k k′ o (clockedOf u)
-      gone = (clocked-ahead k k′ o u h)
+      gone = clocked (dropping k k′ o) u (λ x. h)
 
   filter-fires : KeepsOver k k′ o (filterFiresOf now)
   unfolding filterFiresOf filterPassOf
@@ -323,7 +328,7 @@ module _ (k k′ : Clocks) (s : Time) (o : ℕ) (alike : Alike k k′ s o) (now 
   unfolding readDataOf takenOf
   read-data u h =
       if-both (transmits (takenOf now u)) (alone (fine (takenOf now u)) h)
-      (then-both (resumed (continuedOf (takenOf now u)) (continued-ahead k k′ o (takenOf now u) h)) kick)
+      (then-both (resumed (continuedOf (takenOf now u)) (continued (dropping k k′ o) (takenOf now u) h)) kick)
 
   pub read-at : (r : Register) → KeepsOver k k′ o (readAt r now)
   unfolding readAt
@@ -349,7 +354,7 @@ module _ (k k′ : Clocks) (s : Time) (o : ℕ) (alike : Alike k k′ s o) (now 
       (alone (fine (pullSdaOf value u)) pulled)
     where
       pulled : Ahead k k′ o (pullSdaOf value u)
-      pulled = (pull-ahead k k′ o value u h)
+      pulled = pull-sda (dropping k k′ o) value u h
 
   write-command : (value : ℕ) → KeepsOver k k′ o (writeCommandOf value now)
   unfolding writeCommandOf enterResetOf stopShifterOf
@@ -359,13 +364,13 @@ module _ (k k′ : Clocks) (s : Time) (o : ℕ) (alike : Alike k k′ s o) (now 
 
   send-on : KeepsOver k k′ o (sendOnOf now)
   unfolding sendOnOf
-  send-on u h = if-both (isTransmitHold (u .hold)) (release-hold (loadTransmitOf u) (load-ahead k k′ o u h)) (alone (fine u) h)
+  send-on u h = if-both (isTransmitHold (u .hold)) (release-hold (loadTransmitOf u) (load (dropping k k′ o) u h)) (alone (fine u) h)
 
   pub write-at : (r : Register) (value : ℕ) → KeepsOver k k′ o (writeAt r value now)
   unfolding writeAt writeControlOf writeDataOf writeEnableOf writeStatusOf writeAddressOf giveDataOf
-  write-at ICCR1 value u h = control-taken (takeControlOf value u) (control-ahead k k′ o value u h)
+  write-at ICCR1 value u h = control-taken (takeControlOf value u) (take-control (dropping k k′ o) value u h)
   write-at ICCR2 value u h = write-command value u h
-  write-at ICMR value u h = alone (fine (writeModeOf value u)) (mode-ahead k k′ o value u h)
+  write-at ICMR value u h = alone (fine (writeModeOf value u)) (write-mode (dropping k k′ o) value u h)
   write-at ICIER value u h = alone (fine (writeEnableOf value u)) h
   write-at ICSR value u h = kick (writeStatusOf value u) h
   write-at SAR value u h = kick (writeAddressOf value u) h

@@ -4,13 +4,12 @@ use mathlib.Core.Path.{_≡_, refl, sym, ap, ap₂, _∙_, subst}
 use mathlib.Core.Bool.{Bool, true, false, cond, _&&_}
 use mathlib.Core.Logic.{⊎-elim}
 use Prim.Native.Nat.{ℕ, _+_, _-_, _%_, _^_, _≤_, _<_}
-use native.Mathlib.Nat.{le-add-right}
 use native.Mathlib.Omega.{arith}
 use borrow.Author.Tests.{lt-ltb, le-ltb}
 use lib.Dec.{ltb}
 use Rattle.time.specs.Time.{timeFrom, momentOf}
-use Rattle.time.specs.Clock.{edgeOf, zeroIn, afterOf, span, startAfter, movedBy, inWidth, moveOf}
-use Rattle.time.specs.Laws.{after-is, edge-start, lt-or-le, moment-from, moment-past, moment-refused}
+use Rattle.time.specs.Clock.{zeroIn, span, startAfter, movedBy, inWidth, moveOf}
+use Rattle.time.specs.Laws.{lt-or-le, moment-from, moment-past, moment-refused}
 use Rattle.time.specs.declared.Time.{Time}
 use Rattle.time.specs.declared.Moment.the-variants.{At, Refused}
 use Rattle.time.specs.declared.NewClock.the-variants as new
@@ -31,25 +30,16 @@ move-by n c w e f = rw (e, f)
 pub move-long : (n : ℕ) (c : Clock) → zeroIn c ≡ false → 2 ^ 64 ≤ c .ordinal + n → new.Refused 7 ≡ moveOf n c
 move-long n c e le = move-by n c false e (both-false (ltb (startAfter n c) (2 ^ 128)) (ltb (c .ordinal + n) (2 ^ 64)) (le-ltb (c .ordinal + n) (2 ^ 64) le))
 
--- the new ordinal's edge is asked for where it can be
-there : (n low : ℕ) (c : Clock) → zeroIn c ≡ false → low ≡ c .ordinal + n → afterOf c low ≡ momentOf (edgeOf c low)
-there n low c e f = after-is c low e (subst (λ (x : ℕ). c .ordinal ≤ x) (sym f) (le-add-right (c .ordinal) n))
+pub move-past : (n k : ℕ) (c : Clock) → zeroIn c ≡ false → momentOf (startAfter n c) ≡ Refused k → new.Refused 7 ≡ moveOf n c
+move-past n k c e g = move-by n c false e (ap (λ (b : Bool). b && ltb (c .ordinal + n) (2 ^ 64)) (le-ltb (startAfter n c) (2 ^ 128) (moment-refused (startAfter n c) k g .1)))
 
-pub move-past : (n low k : ℕ) (c : Clock) → zeroIn c ≡ false → low ≡ c .ordinal + n → afterOf c low ≡ Refused k → new.Refused 7 ≡ moveOf n c
-move-past n low k c e f g =
-    let past : 2 ^ 128 ≤ edgeOf c low = moment-refused (edgeOf c low) k (sym (there n low c e f) ∙ g) .1 in
-    move-by n c false e (ap (λ (b : Bool). b && ltb (c .ordinal + n) (2 ^ 64)) (le-ltb (startAfter n c) (2 ^ 128) (subst (λ (x : ℕ). 2 ^ 128 ≤ x) (ap (edgeOf c) f ∙ edge-start c n) past)))
-
-pub move-made : (n low f : ℕ) (c : Clock) (t : Time) → zeroIn c ≡ false → low ≡ c .ordinal + n → low < 2 ^ 64 → afterOf c low ≡ At t → f ≡ span c n % c .numerator
+pub move-made : (n low f : ℕ) (c : Clock) (t : Time) → zeroIn c ≡ false → low ≡ c .ordinal + n → low < 2 ^ 64 → momentOf (startAfter n c) ≡ At t → f ≡ span c n % c .numerator
     → new.Made (record { start = t; numerator = c .numerator; denominator = c .denominator; ordinal = low; fraction = f }) ≡ moveOf n c
 unfolding movedBy
-move-made n low f c t e l less h r =
-    let g : momentOf (edgeOf c low) ≡ At t = sym (there n low c e l) ∙ h in
-    let at : edgeOf c low ≡ startAfter n c = ap (edgeOf c) l ∙ edge-start c n in
-    let start : t ≡ timeFrom (startAfter n c) = moment-from (edgeOf c low) t g ∙ ap (λ (x : ℕ). timeFrom x) at in
-    let early : startAfter n c < 2 ^ 128 = subst (λ (x : ℕ). x < 2 ^ 128) at (within (edgeOf c low) t g) in
+move-made n low f c t e l less g r =
+    let start : t ≡ timeFrom (startAfter n c) = moment-from (startAfter n c) t g in
     (λ i. new.Made (record { start = start i; numerator = c .numerator; denominator = c .denominator; ordinal = l i; fraction = r i }))
-    ∙ move-by n c true e (ap₂ _&&_ (lt-ltb (startAfter n c) (2 ^ 128) early) (lt-ltb (c .ordinal + n) (2 ^ 64) (subst (λ (x : ℕ). x < 2 ^ 64) l less)))
+    ∙ move-by n c true e (ap₂ _&&_ (lt-ltb (startAfter n c) (2 ^ 128) (within (startAfter n c) t g)) (lt-ltb (c .ordinal + n) (2 ^ 64) (subst (λ (x : ℕ). x < 2 ^ 64) l less)))
   where
     within : (x : ℕ) (t : Time) → momentOf x ≡ At t → x < 2 ^ 128
     within x t g = ⊎-elim (λ h. h) (λ h. absurd (never (sym (moment-past x h) ∙ g))) (lt-or-le x (2 ^ 128))

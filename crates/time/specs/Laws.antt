@@ -112,7 +112,7 @@ pub edges-before-of : (c : Clock) (limit : Time) → zeroIn c ≡ false → edge
 unfolding edgesBeforeOf
 edges-before-of c limit e = rw e
 
-div-mono : (h : ℕ) {a b : ℕ} → a ≤ b → a / h ≤ b / h
+pub div-mono : (h : ℕ) {a b : ℕ} → a ≤ b → a / h ≤ b / h
 div-mono h {a} {b} le =
     ⊎-elim
     (λ z. subst (λ (x : ℕ). a / x ≤ b / x) (sym z) (le-of-eq (div-zero a ∙ sym (div-zero b))))

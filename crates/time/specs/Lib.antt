@@ -3,3 +3,4 @@ pub mod Clock
 pub mod Laws
 pub mod Truths
 pub mod MoveLaws
+pub mod NextLaws

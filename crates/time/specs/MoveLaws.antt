@@ -3,9 +3,9 @@
 use Prim.Native.Nat.{ℕ, zero, suc, _+_, _-_, _*_, _/_, _%_, _^_, _≤_, _<_}
 use mathlib.Core.Bool.{Bool, true, false, not, _&&_, _||_, cond, true≢false}
 use mathlib.Core.Path.{_≡_, refl, sym, _∙_, ap, ap₂, subst}
-use native.Mathlib.Nat.{add-assoc, add-mul, add-mul-div-right, add-mul-mod-self-right, div-add-mod', div-mul-le-self, le-div-iff-mul-le, le-refl, le-trans, mod-lt, mul-le-mul-right, add-le-add}
+use native.Mathlib.Nat.{add-assoc, add-mul, add-mul-div-right, add-mul-mod-self-right, div-add-mod', le-refl, le-trans, mod-lt, mul-le-mul-right, add-le-add}
 use native.Mathlib.Omega.{arith}
-use borrow.Author.Tests.{ltb-true, lt-ltb, eqb-false}
+use borrow.Author.Tests.{ltb-true, lt-ltb, ne-eqb}
 use lib.Dec.{eqb, ltb}
 use Rattle.time.specs.declared.Time.{Time}
 use Rattle.time.specs.declared.Moment.the-variants.{At}
@@ -14,7 +14,7 @@ use Rattle.time.specs.declared.NewClock.the-variants.{Made as made, Refu
 use Rattle.time.specs.Clock.{afterOf, andMove, countTo, edgeOf, edgesBefore, inWidth, moveOf, movedBy, span, startAfter, zeroIn}
 use Rattle.time.specs.Time.{momentOf, timeFrom, timeOf}
 use Rattle.time.specs.Truths.{and-left, and-right}
-use Rattle.time.specs.Laws.{edge-mono, edge-start, time-of-from}
+use Rattle.time.specs.Laws.{div-mono, edge-mono, edge-start, no-zero, time-of-from}
 
 -- ## Edges after a move
 
@@ -88,9 +88,6 @@ unfolding countTo
 count-same f g zero h = refl
 count-same f g (suc n) h = ap₂ (λ (x : ℕ) (t : Bool). x + cond t 1 0) (count-same f g n h) (h (suc n))
 
-pub div-grows : (h a b : ℕ) → 0 < h → a ≤ b → a / h ≤ b / h
-div-grows h a b pos le = le-div-iff-mul-le pos .1 (le-trans (div-mul-le-self a h) le)
-
 pub span-grows : (c : Clock) (a b : ℕ) → a ≤ b → span c a ≤ span c b
 span-grows c a b le = add-le-add (mul-le-mul-right (2 ^ 64) (mul-le-mul-right (c .denominator) le)) (le-refl (c .fraction))
 
@@ -114,20 +111,11 @@ count-moved c n limit pos fits less =
 
 -- ## Refusals
 
-pub sound-parts : (c : Clock) → zeroIn c ≡ false → (0 < c .numerator) × (eqb (c .numerator) 0 || eqb (c .denominator) 0 ≡ false)
-unfolding zeroIn
-sound-parts c e = go (eqb (c .numerator) 0) (eqb (c .denominator) 0) refl e
-  where
-    go : (a b : Bool) → eqb (c .numerator) 0 ≡ a → (a || b || not (ltb (c .fraction) (c .numerator))) ≡ false → (0 < c .numerator) × (a || b ≡ false)
-    go true b f g = absurd (true≢false g)
-    go false true f g = absurd (true≢false g)
-    go false false f g = (let ne : c .numerator ≡ 0 → ⊥ = eqb-false (c .numerator) 0 f in omega arith, refl)
-
 pub moved-sound : (c : Clock) (n : ℕ) → zeroIn c ≡ false → zeroIn (movedBy n c) ≡ false
 unfolding zeroIn movedBy
 moved-sound c n e =
-    let parts = sound-parts c e in
-    ap₂ (λ (a b : Bool). a || not b) (parts .1) (lt-ltb (span c n % c .numerator) (c .numerator) (mod-lt (span c n) (parts .0)))
+    let pos = no-zero c e in
+    simp (ne-eqb (c .numerator) 0 (λ z. omega (arith, pos .0)), ne-eqb (c .denominator) 0 (λ z. omega (arith, pos .1)), lt-ltb (span c n % c .numerator) (c .numerator) (mod-lt (span c n) (pos .0)))
 
 less-still : (a b l : ℕ) → a ≤ b → ltb b l ≡ true → ltb a l ≡ true
 less-still a b l le e = let f : b < l = ltb-true b l e in lt-ltb a l (omega arith)
@@ -139,7 +127,7 @@ both-true false b f g = f
 -- what is in its width after both moves was so after the first
 width-before : (c : Clock) (n m : ℕ) → 0 < c .numerator → inWidth (n + m) c ≡ true → inWidth n c ≡ true
 width-before c n m pos e =
-    let starts : startAfter n c ≤ startAfter (n + m) c = add-le-add (le-refl (timeOf (c .start))) (div-grows (c .numerator) _ _ pos (span-grows c n (n + m) (omega arith))) in
+    let starts : startAfter n c ≤ startAfter (n + m) c = add-le-add (le-refl (timeOf (c .start))) (div-mono (c .numerator) (span-grows c n (n + m) (omega arith))) in
     both-true (ltb (startAfter n c) (2 ^ 128)) (ltb (c .ordinal + n) (2 ^ 64))
     (less-still (startAfter n c) (startAfter (n + m) c) (2 ^ 128) starts (and-left _ _ e))
     (less-still (c .ordinal + n) (c .ordinal + (n + m)) (2 ^ 64) (omega arith) (and-right (ltb (startAfter (n + m) c) (2 ^ 128)) _ e))
@@ -158,8 +146,8 @@ move-twice c n m = go (zeroIn c) refl
         → andMove (cond a (made (movedBy n c)) (refused 7)) (moveOf m) ≡ cond b (made (movedBy (n + m) c)) (refused 7)
     second true b e f g =
         ap (λ (z : Bool). cond z (refused 1) (cond (inWidth m (movedBy n c)) (made (movedBy m (movedBy n c))) (refused 7))) (moved-sound c n e)
-        ∙ ap₂ (λ (w : Bool) (x : Clock). cond w (made x) (refused 7)) (width-after c n m (sound-parts c e .0) ∙ g) (moved-twice c n m (sound-parts c e .0))
-    second false true e f g = absurd (true≢false (sym (width-before c n m (sound-parts c e .0) g) ∙ f))
+        ∙ ap₂ (λ (w : Bool) (x : Clock). cond w (made x) (refused 7)) (width-after c n m (no-zero c e .0) ∙ g) (moved-twice c n m (no-zero c e .0))
+    second false true e f g = absurd (true≢false (sym (width-before c n m (no-zero c e .0) g) ∙ f))
     second false false e f g = refl
 
     go : (a : Bool) → zeroIn c ≡ a → andMove (cond a (refused 1) (cond (inWidth n c) (made (movedBy n c)) (refused 7))) (moveOf m)

@@ -325,12 +325,18 @@ impl Clock {
         if ordinal.high != 0 {
             return NewClock::Refused(7);
         }
-        let fraction = left_over(
+        let periods = periods_of(edges, self.denominator);
+        let fraction = left_over(self.numerator, periods, self.fraction);
+        let start = self.start;
+        let moved = edge_of(
+            start.seconds,
+            start.fraction,
             self.numerator,
-            periods_of(edges, self.denominator),
+            periods.high,
+            periods.low,
             self.fraction,
         );
-        match self.after(ordinal.low) {
+        match moved {
             Moment::At(start) => NewClock::Made(Clock {
                 start,
                 numerator: self.numerator,

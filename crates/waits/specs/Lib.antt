@@ -2,5 +2,9 @@ pub mod Half
 pub mod Rates
 pub mod RateLaws
 pub mod RateRows
+pub mod LengthLaws
 pub mod Ends
 pub mod SystemLaws
+pub mod Ahead
+pub mod AheadLaws
+pub mod DueLaws

@@ -1,11 +1,11 @@
 -- `time::Clock::advance` meets its contract: one law of the move for each way out.
 -- Assumes nothing.
-use Prim.Native.Nat.{ℕ, _+_, _*_, _%_, _^_, _≤_, _<_}
+use Prim.Native.Nat.{ℕ, _+_, _*_, _/_, _%_, _^_, _≤_, _<_}
 use mathlib.Core.Path.{_≡_, sym, ap, _∙_}
 use mathlib.Core.Bool.{false}
-use native.Mathlib.Nat.{le-add-right}
 use native.Mathlib.Omega.{arith}
-use Rattle.time.specs.Clock.{span, zeroIn}
+use Rattle.time.specs.Clock.{span, startAfter, zeroIn}
+use Rattle.time.specs.Time.{momentOf, timeOf}
 use Rattle.time.specs.Laws.{no-zero}
 use Rattle.time.proofs.Moves.{move-zero, move-long, move-past, move-made}
 use Rattle.time.proofs.Sums.{low-only}
@@ -39,6 +39,14 @@ left l =
     let a = l .before .before .before .before .before .before .before .args in
     l .left-over .ensures ∙ ap (λ (n : ℕ). (n * 2 ^ 64 + a .self .fraction) % a .self .numerator) (l .before .periods-of .ensures)
 
+-- the new start
+told : (e : tie.After-edge-of) →
+    let a = e .before .before .before .before .before .before .before .before .before .args in
+    e .edge-of .result ≡ momentOf (startAfter (a .edges) (a .self))
+told e =
+    let a = e .before .before .before .before .before .before .before .before .before .args in
+    e .edge-of .ensures ∙ ap (λ (n : ℕ). momentOf (timeOf (a .self .start) + (n * 2 ^ 64 + a .self .fraction) / a .self .numerator)) (e .before .before .before .periods-of .ensures)
+
 has-zero-requires : tie.Need-has-zero-requires
 has-zero-requires c κs = search needs
 
@@ -66,28 +74,29 @@ left-over-requires c κs =
     let i = c .before .before .before .before in
     no-zero (i .before .before .args .self) (sym (i .before .has-zero .ensures) ∙ i .if1 .left) .0
 
-after-requires : tie.Need-after-requires
-after-requires c κs = search needs
+edge-of-requires : tie.Need-edge-of-requires
+edge-of-requires c κs = no-zero _ (sound (c .before)) .0
 
-enum-known-start : tie.Need-enum-known-start
-enum-known-start c = search needs
+enum-known-moved : tie.Need-enum-known-moved
+enum-known-moved c = search needs
 
 enum-told : tie.Need-enum-told
 enum-told c = search needs
 
 returns-3 : tie.Need-returns-3
 returns-3 c =
-    let l = c .before .before .before .before in
+    let e = c .before .before .before in
+    let l = e .before .before in
     let s = l .before .before .before .before in
     let a = s .before .before .before .args in
-    move-made (a .edges) (s .sum .result .low) (l .left-over .result) (a .self) (c .before .start .given .0 .0) (sound l) (low l) (word s) (sym (c .before .before .before .after .ensures) ∙ c .before .start .given .1) (left l)
+    move-made (a .edges) (s .sum .result .low) (l .left-over .result) (a .self) (c .before .moved .given .0 .0) (sound l) (low l) (word s) (sym (told e) ∙ c .before .moved .given .1) (left l)
 
 returns-4 : tie.Need-returns-4
 returns-4 c =
-    let l = c .before .before .before in
-    let s = l .before .before .before .before in
-    let a = s .before .before .before .args in
-    move-past (a .edges) (s .sum .result .low) (c .enum-told .given .0 .0) (a .self) (sound l) (low l) (sym (c .before .before .after .ensures) ∙ c .enum-told .given .1)
+    let e = c .before .before in
+    let l = e .before .before in
+    let a = l .before .before .before .before .before .before .before .args in
+    move-past (a .edges) (c .enum-told .given .0 .0) (a .self) (sound l) (sym (told e) ∙ c .enum-told .given .1)
 
 pub advance-spec : {M : Type 1} → statement M
 advance-spec =
@@ -99,8 +108,8 @@ advance-spec =
     returns-2
     periods-of-requires
     left-over-requires
-    after-requires
-    enum-known-start
+    edge-of-requires
+    enum-known-moved
     enum-told
     returns-3
     returns-4)

@@ -1,4 +1,4 @@
--- Laws: on bits of a byte that a mask leaves.
+-- Laws: on bits of a byte that a mask leaves. Assumes nothing.
 use Prim.Native.Nat.{ℕ, zero, suc, _+_, _*_, _%_, _/_, _≤_, min}
 use mathlib.Core.Bool.{not}
 use mathlib.Core.Path.{_≡_, sym, _∙_, ap, ap₂}
