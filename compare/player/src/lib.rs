@@ -1,23 +1,30 @@
 //! Plays traces, as document 01 has them ("The trace player"), over the peripheral of docs/src.
+mod answer;
 mod busy;
 mod line;
 mod player;
 mod runs;
+mod wave;
+pub use answer::trace_clocks;
 pub use busy::Busy;
+pub use line::{parse_script, Call, ScriptCall};
 pub use player::Player;
 pub use runs::Runs;
+pub use wave::{header, Wave};
 
 /// After so many lines no more is read.
 pub const MOST_LINES: usize = 1_000_000;
 /// With fewer free bytes than this no line is played.
 pub const ROOM: usize = 80;
+/// The place of the refusal in an answer line.
+const REFUSAL: usize = 1;
 
 /// What became of a whole trace.
 #[derive(Clone, PartialEq, Eq, Debug)]
 pub struct Played {
-    /// The answer lines, or the reports.
+    /// The answer lines, the reports or the signals.
     pub bytes: Vec<u8>,
-    /// How many there are.
+    /// How many lines were played.
     pub lines: usize,
     /// 6 where the room ended before the trace, else 0.
     pub refusal: u8,
@@ -30,9 +37,7 @@ pub fn play(trace: &[u8], capacity: usize) -> Played {
 
 /// The same, where overflows are 13 on the lines that some answers have so: the Rust doesn't tell them from 7.
 pub fn play_like(answers: &[u8], trace: &[u8], capacity: usize) -> Played {
-    let lines = answers.split(|byte| *byte == b'\n').enumerate();
-    let half_counts = lines.filter(|(_, line)| line.split(|byte| *byte == b'\t').nth(1) == Some(b"13"));
-    play_by(Player::told(half_counts.map(|(place, _)| place + 1).collect()), trace, capacity)
+    play_by(Player::told(answer::half_counts(answers, REFUSAL)), trace, capacity)
 }
 
 fn play_by(mut player: Player, trace: &[u8], capacity: usize) -> Played {
@@ -43,6 +48,12 @@ fn play_by(mut player: Player, trace: &[u8], capacity: usize) -> Played {
 pub fn busy(trace: &[u8], capacity: usize) -> Played {
     let mut busy = Busy::default();
     each_line(trace, capacity, |line, out| busy.play(line, out))
+}
+
+/// The signals of a trace, in at most so many bytes, without the header of a VCD file.
+pub fn wave(trace: &[u8], capacity: usize) -> Played {
+    let mut wave = Wave::default();
+    each_line(trace, capacity, |line, out| wave.play(line, out))
 }
 
 fn each_line(trace: &[u8], capacity: usize, mut play: impl FnMut(&[u8], &mut Vec<u8>)) -> Played {

@@ -1,4 +1,4 @@
-//! The lines of a trace.
+//! The lines of a trace, and of a script.
 use reference::Time;
 
 /// The longest line that can be well formed, without its newline.
@@ -16,12 +16,32 @@ pub enum Call {
 
 /// The time and the call of a line without its newline; none of a malformed one.
 pub fn parse(line: &[u8]) -> Option<(Time, Call)> {
-    if line.len() > LONGEST {
-        return None;
-    }
-    let mut fields = line.split(|byte| *byte == b'\t');
-    let seconds = decimal(fields.next()?)?;
-    let fraction = hexadecimal(fields.next()?, 16)?;
+    let mut fields = fields(line)?;
+    Some((time(&mut fields)?, call(&mut fields)?))
+}
+
+/// A time, a unit and a call of it.
+pub type ScriptCall = (Time, usize, Call);
+
+/// What a script line says, which has a unit before the verb and not every verb.
+pub fn parse_script(line: &[u8]) -> Option<ScriptCall> {
+    let mut fields = fields(line)?;
+    let (at, unit, call) = (time(&mut fields)?, unit(fields.next()?)?, call(&mut fields)?);
+    matches!(call, Call::Read(_) | Call::Write(..) | Call::Gate(_)).then_some((at, unit, call))
+}
+
+/// None of a line that is too long.
+fn fields(line: &[u8]) -> Option<impl Iterator<Item = &[u8]>> {
+    (line.len() <= LONGEST).then(|| line.split(|byte| *byte == b'\t'))
+}
+
+fn time<'a>(fields: &mut impl Iterator<Item = &'a [u8]>) -> Option<Time> {
+    let (seconds, fraction) = (decimal(fields.next()?)?, hexadecimal(fields.next()?, 16)?);
+    Some(Time::from_raw(u128::from(seconds) << 64 | u128::from(fraction)))
+}
+
+/// A verb and its operands, with nothing behind them.
+fn call<'a>(fields: &mut impl Iterator<Item = &'a [u8]>) -> Option<Call> {
     let call = match fields.next()? {
         b"r" => Call::Read(address(fields.next()?)?),
         b"w" => Call::Write(address(fields.next()?)?, hexadecimal(fields.next()?, 2)? as u8),
@@ -31,8 +51,14 @@ pub fn parse(line: &[u8]) -> Option<(Time, Call)> {
         b"d" => Call::Deadline,
         _ => return None,
     };
-    let at = Time::from_raw(u128::from(seconds) << 64 | u128::from(fraction));
-    fields.next().is_none().then_some((at, call))
+    fields.next().is_none().then_some(call)
+}
+
+fn unit(field: &[u8]) -> Option<usize> {
+    match field {
+        [digit @ b'0'..=b'9'] => Some(usize::from(digit - b'0')),
+        _ => None,
+    }
 }
 
 /// Digits without a needless leading zero.

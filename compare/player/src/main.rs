@@ -1,6 +1,6 @@
-//! Plays the trace of standard input and prints its answer lines, or with the argument `busy` its reports. Other
-//! arguments are numbers of lines: an overflow there is that of a half count, 13, which the Rust doesn't tell from 7.
-use plain_player::{Busy, Player, MOST_LINES};
+//! Plays the trace of standard input and prints its answer lines, or with the argument `busy` its reports, or with
+//! `wave` its signals as a VCD file. Other arguments are numbers of lines: an overflow there is that of a half count, 13, which the Rust doesn't tell from 7.
+use plain_player::{header, Busy, Player, Wave, MOST_LINES};
 use std::env;
 use std::io::{self, BufRead, Write};
 use std::process::ExitCode;
@@ -20,6 +20,11 @@ fn play() -> io::Result<()> {
     if words.next_if_eq("busy").is_some() {
         let mut busy = Busy::default();
         return each_line(|line, out| busy.play(line, out));
+    }
+    if words.next_if_eq("wave").is_some() {
+        io::stdout().write_all(&header())?;
+        let mut wave = Wave::default();
+        return each_line(|line, out| wave.play(line, out));
     }
     let numbers = words.map(|number| number.parse().map_err(|e| io::Error::other(format!("{number}: {e}"))));
     let mut player = Player::told(numbers.collect::<io::Result<_>>()?);

@@ -1,5 +1,5 @@
 //! Every run of consecutive lines of a trace, played apart (document 02, (h) and (i)).
-use crate::player::OVERFLOW;
+use crate::answer::OVERFLOW;
 use crate::Player;
 
 /// What the last line of each run draws.

@@ -1,8 +1,8 @@
 use crate::busy::report;
-use crate::{busy, play, Played, Runs};
+use crate::{busy, header, play, wave, Played, Runs};
 
 /// A trace or answer lines with spaces for tabs.
-fn tabs(text: &str) -> Vec<u8> {
+pub fn tabs(text: &str) -> Vec<u8> {
     text.replace(' ', "\t").into_bytes()
 }
 
@@ -126,6 +126,38 @@ fn reports_have_the_room_of_answers() {
     assert_eq!(busy(&tabs(EXAMPLE), 80 + 4), Played { bytes, lines: 2, refusal: 6 });
     assert_eq!(busy(&tabs(EXAMPLE), 79), Played { bytes: Vec::new(), lines: 0, refusal: 6 });
     assert_eq!(busy(&b"\n".repeat(1_000_001), usize::MAX).lines, 1_000_000);
+}
+
+/// The signals of a trace, the values of a line in one word.
+fn signals(trace: &str) -> String {
+    let text = String::from_utf8(wave(&tabs(trace), usize::MAX).bytes).unwrap();
+    let mut names = ('!'..='/').cycle();
+    let lines = text.lines().map(|line| match line.strip_prefix('#') {
+        Some(time) => format!(" {time}:"),
+        None => line.strip_suffix(names.next().unwrap()).unwrap().into(),
+    });
+    lines.collect()
+}
+
+#[test]
+fn signals_after_each_line() {
+    // TDRE is set as the second line enables the peripheral; the fourth has SCL driven low.
+    let off = "1111zz000000001";
+    let on = "111111100000001";
+    let low = "011101100000001";
+    assert_eq!(signals(EXAMPLE), format!(" 0:{off} 0:{on} 0:{on} 0:{low} 0:{low}"));
+    assert_eq!(signals(""), "");
+}
+
+#[test]
+fn signals_have_times_from_the_first_line_on() {
+    // Malformed, the first, half a second later, earlier, at the last time; SCL is reported low.
+    let trace = "x\n5 8000000000000000 g 1\n6 0000000000000000 p 0 1\n5 0000000000000000 v\n\
+        18446744073709551615 ffffffffffffffff v\n";
+    let low = "0101zz000000001";
+    assert_eq!(signals(trace), format!(" 0:1111zz000000001 500000000:{low} 18446744073000000000:{low}"));
+    assert_eq!(wave(&tabs(trace), 79), Played { bytes: Vec::new(), lines: 0, refusal: 6 });
+    assert!(header().ends_with(b"$var wire 1 / gate $end\n$upscope $end\n$enddefinitions $end\n"));
 }
 
 #[test]

@@ -1,5 +1,5 @@
-// Plays the trace on standard input and writes its answer lines to standard output as they come, or with the argument `busy` its reports, in two
-// buffers of 64 KiB, whatever the length of the trace or of a line.
+// Plays the trace on standard input and writes its answer lines to standard output as they come, or with the argument `busy` its reports, or with
+// `wave` its signals as a VCD file, in two buffers of 64 KiB, whatever the length of the trace or of a line.
 ghost use mathlib.Core.Path.{_≡_};
 ghost use Prim.Native.Nat.{_-_, _≤_, min};
 ghost use lib.ListN.{length, take, drop};
@@ -144,26 +144,67 @@ fn run(wanted: Output, input: &mut [u8], output: &mut [u8])
     }
 }
 
-// Whether a word is `busy`.
-fn says_busy(word: &[u8]) -> bool {
+// Whether a word is that of four letters.
+fn says(word: &[u8], name: &[u8; 4]) -> bool {
     if word.len() == 4 {
-        return (word[0] == b'b') & (word[1] == b'u') & (word[2] == b's') & (word[3] == b'y');
+        return (word[0] == name[0])
+            & (word[1] == name[1])
+            & (word[2] == name[2])
+            & (word[3] == name[3]);
     }
     false
 }
 
-// Reports where the first argument is `busy`, else answer lines.
+// By the first argument.
 fn wanted() -> Output {
     let mut word = [0u8; 5];
     let n = os::arg(1, &mut word);
-    if says_busy(&word[0..n]) {
+    if says(&word[0..n], b"busy") {
         return Output::Reports;
+    }
+    if says(&word[0..n], b"wave") {
+        return Output::Waves;
     }
     Output::Answers
 }
 
+// What stands before the first line's text: of a VCD file the unit of time, and of each signal the byte that stands for it and its name.
+fn begin(wanted: Output) -> bool {
+    match wanted {
+        Output::Answers => true,
+        Output::Reports => true,
+        Output::Waves => write_out(
+            b"$timescale 1 ns $end
+$scope module iic $end
+$var wire 1 ! SCL $end
+$var wire 1 \" SDA $end
+$var wire 1 # SCL_given $end
+$var wire 1 $ SDA_given $end
+$var wire 1 % SCL_driven $end
+$var wire 1 & SDA_driven $end
+$var wire 1 ' TDRE $end
+$var wire 1 ( TEND $end
+$var wire 1 ) RDRF $end
+$var wire 1 * NACKF $end
+$var wire 1 + STOP $end
+$var wire 1 , AL $end
+$var wire 1 - AAS $end
+$var wire 1 . ADZ $end
+$var wire 1 / gate $end
+$upscope $end
+$enddefinitions $end
+",
+        ),
+    }
+}
+
 fn main() {
+    let wanted = wanted();
+    let begun = begin(wanted);
+    if !begun {
+        return;
+    }
     let mut input = io::large_buffer();
     let mut output = io::large_buffer();
-    run(wanted(), &mut input, &mut output);
+    run(wanted, &mut input, &mut output);
 }

@@ -9,9 +9,11 @@ use Rattle.iic.specs.declared.Pins.{Pins}
 use Rattle.iic.specs.declared.Pins.the-variants.{NoPins, Driven}
 use Rattle.player.specs.declared.Value.{Value}
 use Rattle.player.specs.declared.Value.the-variants.{NoValue, Byte, Bit, Moment}
+use Rattle.player.specs.declared.Shown.{Shown}
+use Rattle.player.specs.declared.Shown.the-variants.{Alone, Unit, Nobody}
 use Rattle.player.specs.Numbers.{decimalIn, hexIn}
 use Rattle.player.specs.Puts.{Put}
-use Rattle.player.specs.Answers.{valueText, levelsText}
+use Rattle.player.specs.Answers.{valueText, levelsText, unitText, stateText, shownText}
 use Rattle.player.specs.NumberLaws.{decimal-length, hex-length}
 use Rattle.player.proofs.Puts.{put-then}
 
@@ -38,6 +40,19 @@ value-length (Bit b) = omega arith
 value-length (Moment t) =
     omega (arith, length-append (decimalIn 20 (t .seconds)) (58 ∷ hexIn 16 (t .fraction)), decimal-length 20 (t .seconds), hex-length 16 (t .fraction))
 
+pub unit-length : (s : Shown) → length (unitText s) ≤ 2
+unit-length (Alone p s) = omega arith
+unit-length (Unit n p s) = omega (arith, decimal-length 1 n)
+unit-length Nobody = omega arith
+
 pub levels-length : (p : Pins) → length (levelsText p) ≤ 2
 levels-length NoPins = omega arith
 levels-length (Driven l) = omega arith
+
+state-length : (p : Pins) (s : ℕ) → length (stateText p s) ≤ 5
+state-length p s = omega (arith, length-append (levelsText p) (9 ∷ hexIn 2 s), levels-length p, hex-length 2 s)
+
+pub shown-length : (s : Shown) → length (shownText s) ≤ 5
+shown-length (Alone p s) = state-length p s
+shown-length (Unit n p s) = state-length p s
+shown-length Nobody = omega arith

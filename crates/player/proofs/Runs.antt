@@ -9,9 +9,9 @@ use native.Mathlib.Omega.{arith}
 use lib.Dec.{ltb}
 use lib.ListN.{length, take, drop, length-append, length-drop, take-append-drop}
 use lib.Seq.{length-take-le, drop-drop, take-at, drop-at}
-use Rattle.window.specs.declared.Window.{Window}
 use Rattle.clocks.specs.declared.Clocks.{Clocks}
 use Rattle.player.specs.declared.Output.{Output}
+use Rattle.player.specs.declared.Seen.{Seen}
 use Rattle.player.specs.declared.Player.{Player}
 use Rattle.player.specs.declared.Answer.{Answer}
 use Rattle.player.specs.Lines.{linesIn, lineLength}
@@ -31,7 +31,7 @@ prefix-twice a b n m r =
     ap (λ (l : List ℕ). record { bytes = l; used = n + (m + r .used); player = r .player; refusal = r .refusal }) (sym (append-assoc a b (r .bytes)))
     ∙ ap (λ (u : ℕ). record { bytes = (a ++ b) ++ r .bytes; used = u; player = r .player; refusal = r .refusal }) (sym (add-assoc n m (r .used)))
 
-take-next : (n : ℕ) (l : List ℕ) (ls : List (List ℕ)) → n < 1000000 → take (1000000 - n) (l ∷ ls) ≡ l ∷ take (1000000 - (n + 1)) ls
+pub take-next : (n : ℕ) (l : List ℕ) (ls : List (List ℕ)) → n < 1000000 → take (1000000 - n) (l ∷ ls) ≡ l ∷ take (1000000 - (n + 1)) ls
 take-next n l ls h = ap (λ (k : ℕ). take k (l ∷ ls)) (back n h)
   where
     back : (n : ℕ) → n < 1000000 → 1000000 - n ≡ suc (1000000 - (n + 1))
@@ -59,7 +59,7 @@ run-full t k p l ls rest free e below h =
     ap (λ (x : List (List ℕ)). run t k p (linesLeft p x) free) e ∙ ap (λ (x : List (List ℕ)). run t k p x free) (take-next (p .lines) l rest below) ∙ run-no-room t k p l (take (1000000 - (p .lines + 1)) rest) free h
 
 pub run-more : (t : Output) (k : Clocks) (p : Player) (l : List ℕ) (ls rest : List (List ℕ)) (free : ℕ) → ls ≡ l ∷ rest → p .lines < 1000000 → 80 ≤ free
-    → run t k p (linesLeft p ls) free ≡ prefix (lineText t k p l) (suc (length l)) (run t k (nextPlayer k p l) (linesLeft (nextPlayer k p l) rest) (free - length (lineText t k p l)))
+    → run t k p (linesLeft p ls) free ≡ prefix (lineText t k p l) (suc (length l)) (run t k (nextPlayer t k p l) (linesLeft (nextPlayer t k p l) rest) (free - length (lineText t k p l)))
 run-more t k p l ls rest free e below h =
     ap (λ (x : List (List ℕ)). run t k p (linesLeft p x) free) e ∙ ap (λ (x : List (List ℕ)). run t k p x free) (take-next (p .lines) l rest below) ∙ run-one-more t k p l (take (1000000 - (p .lines + 1)) rest) free h
 
@@ -175,9 +175,9 @@ module _ {t : Output} {k : Clocks} {ended : Bool} {s before : List ℕ} {p₀ : 
           omega (arith, head-long, g .long)
 
       abbrev next : Run
-      next = run t k (nextPlayer k p line) (linesLeft (nextPlayer k p line) (linesIn ended (drop onward s))) (length before - written - length text)
+      next = run t k (nextPlayer t k p line) (linesLeft (nextPlayer t k p line) (linesIn ended (drop onward s))) (length before - written - length text)
 
-      pub turn : Going t k ended s before p₀ out′ (nextPlayer k p line) onward (written + r)
+      pub turn : Going t k ended s before p₀ out′ (nextPlayer t k p line) onward (written + r)
       turn = record {
         at-le = omega arith;
         written-le = within;
@@ -190,7 +190,7 @@ module _ {t : Output} {k : Clocks} {ended : Bool} {s before : List ℕ} {p₀ : 
             ∙ ap (prefix (take written out) (g .spent)) (run-more t k p line (linesIn ended (drop at s)) (linesIn ended (drop onward s)) (length before - written) lines-are below room)
             ∙ prefix-twice (take written out) text (g .spent) (suc (length line)) next
             ∙ ap (λ (l : List ℕ). prefix l (g .spent + suc (length line)) next) (sym taken)
-            ∙ ap (λ (n : ℕ). prefix (take (written + r) out′) (g .spent + suc (length line)) (run t k (nextPlayer k p line) (linesLeft (nextPlayer k p line) (linesIn ended (drop onward s))) n)) free-is;
+            ∙ ap (λ (n : ℕ). prefix (take (written + r) out′) (g .spent + suc (length line)) (run t k (nextPlayer t k p line) (linesLeft (nextPlayer t k p line) (linesIn ended (drop onward s))) n)) free-is;
       }
         where
           free-is : length before - written - length text ≡ length before - (written + r)
@@ -198,14 +198,14 @@ module _ {t : Output} {k : Clocks} {ended : Bool} {s before : List ℕ} {p₀ : 
 
     -- the same from an answer, its line put into the part that starts at the first free byte
     module _ (room : 80 ≤ length before - written) (a : Answer) (a-is : a ≡ answerOf k (p .host) line) (inner : List ℕ) (r at′ : ℕ)
-        (w : Window) (w-is : w ≡ answered p a .window)
+        (w : Seen) (w-is : w ≡ answered t p a .seen)
         (put : Put (drop written out) inner 0 r (textBy t (p .lines + 1) w a)) (inner-long : length inner ≡ length (drop written out)) (at′-is : at′ ≡ onward) where
       text-is : textBy t (p .lines + 1) w a ≡ text
       unfolding lineText
-      text-is = ap (λ (x : Window). textBy t (p .lines + 1) x a) w-is ∙ ap (λ (x : Answer). textBy t (p .lines + 1) (answered p x .window) x) a-is
+      text-is = ap (λ (x : Seen). textBy t (p .lines + 1) x a) w-is ∙ ap (λ (x : Answer). textBy t (p .lines + 1) (answered t p x .seen) x) a-is
 
-      next-is : record { lines = p .lines + 1; window = w; host = a .host } ≡ nextPlayer k p line
-      next-is = ap (λ (x : Window). record { lines = p .lines + 1; window = x; host = a .host }) w-is ∙ ap (answered p) a-is
+      next-is : record { lines = p .lines + 1; seen = w; host = a .host } ≡ nextPlayer t k p line
+      next-is = ap (λ (x : Seen). record { lines = p .lines + 1; seen = x; host = a .host }) w-is ∙ ap (answered t p) a-is
 
       r-is : r ≡ length text
       r-is = let n = put .next in let e : length (textBy t (p .lines + 1) w a) ≡ length text = ap length text-is in omega arith
@@ -219,8 +219,8 @@ module _ {t : Output} {k : Clocks} {ended : Bool} {s before : List ℕ} {p₀ : 
           let d : length (drop written out) ≡ length out - written = length-drop written out in
           omega (arith, taken-long, g .long, g .written-le)
 
-      pub again : Going t k ended s before p₀ (take written out ++ inner) (record { lines = p .lines + 1; window = w; host = a .host }) at′ (written + r)
+      pub again : Going t k ended s before p₀ (take written out ++ inner) (record { lines = p .lines + 1; seen = w; host = a .host }) at′ (written + r)
       again =
           subst (λ (x : Player). Going t k ended s before p₀ (take written out ++ inner) x at′ (written + r)) (sym next-is)
-          (subst (λ (n : ℕ). Going t k ended s before p₀ (take written out ++ inner) (nextPlayer k p line) n (written + r)) (sym at′-is)
+          (subst (λ (n : ℕ). Going t k ended s before p₀ (take written out ++ inner) (nextPlayer t k p line) n (written + r)) (sym at′-is)
           (turn room (take written out ++ inner) r r-is long-is put-is))

@@ -3,6 +3,7 @@
 use mathlib.Core.Bool.{Bool, cond}
 use mathlib.Core.List.{List, [], _∷_, _++_}
 use Prim.Native.Nat.{ℕ, _<_, _^_}
+use Rattle.time.specs.declared.Time.{Time}
 use Rattle.player.specs.declared.Verb.{Verb}
 use Rattle.player.specs.declared.Verb.the-variants.{Read, Write, Pins, Gate, Visit, Deadline}
 use Rattle.player.specs.declared.Call.{Call}
@@ -25,9 +26,13 @@ spellVerb (Gate g) = 103 ∷ tab ∷ bitGlyph g ∷ []
 spellVerb Visit = 118 ∷ []
 spellVerb Deadline = 100 ∷ []
 
--- seconds, fraction (16 hexadecimal digits), verb, operands
+-- seconds and fraction (16 hexadecimal digits), each with the tab after it
+abbrev pub timeText : Time → List ℕ
+timeText t = decimalIn 20 (t .seconds) ++ tab ∷ (hexIn 16 (t .fraction) ++ tab ∷ [])
+
+-- seconds, fraction, verb, operands
 abbrev pub spell : Call → List ℕ
-spell c = decimalIn 20 (c .time .seconds) ++ tab ∷ (hexIn 16 (c .time .fraction) ++ tab ∷ spellVerb (c .verb))
+spell c = timeText (c .time) ++ spellVerb (c .verb)
 
 -- an address is 0 to 7, a byte below 256
 abbrev pub VerbInRange : Verb → Type 0
@@ -39,7 +44,10 @@ VerbInRange Visit = 0 < 1
 VerbInRange Deadline = 0 < 1
 
 -- seconds 0 to 2^64 - 1, a fraction in units of 2^-64 s
+pub record TimeInRange (t : Time) : Type 0 where
+  pub seconds : t .seconds < 2 ^ 64
+  pub fraction : t .fraction < 2 ^ 64
+
 pub record InRange (c : Call) : Type 0 where
-  pub seconds : c .time .seconds < 2 ^ 64
-  pub fraction : c .time .fraction < 2 ^ 64
+  pub time : TimeInRange (c .time)
   pub verb : VerbInRange (c .verb)

@@ -7,6 +7,7 @@ pub mod Lines
 pub mod LineLaws
 pub mod Calls
 pub mod Puts
+pub mod Wave
 pub mod Answers
 pub mod Trace
 pub mod Parts
@@ -15,3 +16,4 @@ pub mod SplitLaws
 pub mod Reports
 pub mod ReportLaws
 pub mod Rows
+pub mod WaveLaws

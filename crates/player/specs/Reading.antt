@@ -5,10 +5,13 @@ use mathlib.Core.List.{List, [], _∷_}
 use Prim.Native.Nat.{ℕ, zero, suc, _+_, _-_, _*_, _^_}
 use lib.Dec.{ltb, eqb}
 use lib.ListN.{length, drop, getD}
+use Rattle.time.specs.declared.Time.{Time}
 use Rattle.player.specs.declared.Verb.{Verb}
 use Rattle.player.specs.declared.Verb.the-variants.{Read, Write, Pins, Gate, Visit, Deadline}
 use Rattle.player.specs.declared.Parsed.{Parsed}
 use Rattle.player.specs.declared.Parsed.the-variants.{Malformed, Calls}
+use Rattle.player.specs.declared.reading.MaybeTime.{MaybeTime}
+use Rattle.player.specs.declared.reading.MaybeTime.the-variants.{NoTime, IsTime}
 use Rattle.player.specs.declared.reading.Scanned.{Scanned}
 use Rattle.player.specs.declared.reading.Scanned.the-variants.{NoSeconds, Seconds}
 use Rattle.player.specs.declared.reading.MaybeUnits.{MaybeUnits}
@@ -84,27 +87,34 @@ verbOf v =
     (cond (eqb (length v) 3) (singleOf (getD v 0 0) (getD v 1 0) (getD v 2 0))
     (cond (eqb (length v) 5) (fiveOf v) NoVerb)))
 
+abbrev pub withFraction : MaybeUnits → (ℕ → MaybeTime) → MaybeTime
+withFraction NoUnits f = NoTime
+withFraction (Units n) f = f n
+
+abbrev pub withSeconds : Scanned → (ℕ → ℕ → MaybeTime) → MaybeTime
+withSeconds NoSeconds f = NoTime
+withSeconds (Seconds n m) f = f n m
+
+-- ## A time: seconds, tab, fraction, tab, in a line of at most 64 bytes; with the place after it
+
+-- what follows the seconds and their tab, which end at that place
+unfoldable pub fractionAt : ℕ → ℕ → List ℕ → MaybeTime
+fractionAt n m l =
+    cond (ltb (length l) 17) NoTime
+    (cond (not (eqb (getD l 16 0) 9)) NoTime (withFraction (fractionOf l) (λ f. IsTime (record { seconds = n; fraction = f }) (m + 17))))
+
+unfoldable pub timedOf : List ℕ → MaybeTime
+timedOf l = cond (ltb 64 (length l)) NoTime (withSeconds (secondsOf l) (λ n m. fractionAt n m (drop m l)))
+
 -- ## A line
 
 abbrev pub withVerb : MaybeVerb → (Verb → Parsed) → Parsed
 withVerb NoVerb f = Malformed
 withVerb (IsVerb v) f = f v
 
-abbrev pub withFraction : MaybeUnits → (ℕ → Parsed) → Parsed
-withFraction NoUnits f = Malformed
-withFraction (Units n) f = f n
+abbrev pub withTime : MaybeTime → (Time → ℕ → Parsed) → Parsed
+withTime NoTime f = Malformed
+withTime (IsTime t m) f = f t m
 
-abbrev pub withSeconds : Scanned → (ℕ → ℕ → Parsed) → Parsed
-withSeconds NoSeconds f = Malformed
-withSeconds (Seconds n m) f = f n m
-
--- what follows the seconds and their tab
-unfoldable pub timedOf : ℕ → List ℕ → Parsed
-timedOf n l =
-    cond (ltb (length l) 17) Malformed
-    (cond (not (eqb (getD l 16 0) 9)) Malformed
-    (withFraction (fractionOf l) (λ f. withVerb (verbOf (drop 17 l)) (λ v. Calls (record { time = record { seconds = n; fraction = f }; verb = v })))))
-
--- at most 64 bytes
 unfoldable pub callOf : List ℕ → Parsed
-callOf l = cond (ltb 64 (length l)) Malformed (withSeconds (secondsOf l) (λ n m. timedOf n (drop m l)))
+callOf l = withTime (timedOf l) (λ t m. withVerb (verbOf (drop m l)) (λ v. Calls (record { time = t; verb = v })))

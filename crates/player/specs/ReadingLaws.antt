@@ -2,20 +2,23 @@
 -- Assumes nothing.
 use mathlib.Core.Path.{_≡_, refl, sym, ap, _∙_, subst}
 use mathlib.Core.Bool.{Bool, true, false, cond, not, _&&_}
-use mathlib.Core.List.{List, [], _∷_, _++_}
+use mathlib.Core.List.{List, [], _∷_, _++_, append-assoc}
 use mathlib.Core.Logic.{_⊎_, ⊎-elim}
 use Prim.Native.Nat.{ℕ, zero, suc, _+_, _-_, _*_, _/_, _%_, _^_, _≤_, _<_}
 use native.Mathlib.Nat.{pow-suc, pow-succ', div-one, div-div-eq-div-mul, div-eq-of-lt}
 use native.Mathlib.Omega.{arith}
 use lib.Dec.{ltb, eqb}
-use lib.ListN.{length, drop, getD, length-append}
-use lib.Seq.{drop-append-add, drop-cons, getD-at}
+use lib.ListN.{length, drop, getD, length-append, length-drop}
+use lib.Seq.{drop-append-add, drop-at, drop-cons, drop-drop, getD-at}
 use borrow.Author.Tests.{lt-ltb, le-ltb, eq-eqb, ne-eqb, ltb-true, ltb-false, eqb-true}
+use Rattle.time.specs.declared.Time.{Time}
 use Rattle.player.specs.declared.Verb.{Verb}
 use Rattle.player.specs.declared.Verb.the-variants.{Read, Write, Pins, Gate, Visit, Deadline}
 use Rattle.player.specs.declared.Call.{Call}
 use Rattle.player.specs.declared.Parsed.{Parsed}
 use Rattle.player.specs.declared.Parsed.the-variants.{Malformed, Calls}
+use Rattle.player.specs.declared.reading.MaybeTime.{MaybeTime}
+use Rattle.player.specs.declared.reading.MaybeTime.the-variants.{NoTime, IsTime}
 use Rattle.player.specs.declared.reading.Scanned.{Scanned}
 use Rattle.player.specs.declared.reading.Scanned.the-variants.{NoSeconds, Seconds}
 use Rattle.player.specs.declared.reading.MaybeUnits.{MaybeUnits}
@@ -23,8 +26,8 @@ use Rattle.player.specs.declared.reading.MaybeUnits.the-variants.{NoUnit
 use Rattle.player.specs.declared.reading.MaybeVerb.{MaybeVerb}
 use Rattle.player.specs.declared.reading.MaybeVerb.the-variants.{NoVerb, IsVerb}
 use Rattle.player.specs.Numbers.{glyph, decimalIn, hexIn}
-use Rattle.player.specs.Format.{bitGlyph, spellVerb, spell, VerbInRange, InRange}
-use Rattle.player.specs.Reading.{digitOf, hexFrom, fractionOf, bareOf, singleOf, pairOf, writtenOf, fiveOf, sixOf, verbOf, withVerb, withFraction, withSeconds, secondsOf, timedOf, callOf}
+use Rattle.player.specs.Format.{bitGlyph, spellVerb, timeText, spell, VerbInRange, TimeInRange, InRange}
+use Rattle.player.specs.Reading.{digitOf, hexFrom, fractionOf, bareOf, singleOf, pairOf, writtenOf, fiveOf, sixOf, verbOf, withVerb, withFraction, withSeconds, withTime, secondsOf, fractionAt, timedOf, callOf}
 use Rattle.player.specs.NumberLaws.{chosen, both, below-or-not, digit-glyph, glyph-digit, seconds-told, seconds-text, decimal-length, hex-length}
 
 -- ## Fractions
@@ -113,7 +116,7 @@ no-verb : {A : Type 0} (w : Verb) → NoVerb ≡ IsVerb w → A
 no-verb w e = absurd (let z : _≡_ {A = ℕ} 0 1 = cc in omega arith)
 
 -- a list spells a verb in range
-abbrev Spells : List ℕ → Verb → Type 0
+abbrev pub Spells : List ℕ → Verb → Type 0
 Spells l w = (l ≡ spellVerb w) × VerbInRange w
 
 -- the verb that a list was read as
@@ -226,7 +229,7 @@ unfolding verbOf
 too-long v h =
     simp (ne-eqb (length v) 6 (λ z. omega arith), ne-eqb (length v) 1 (λ z. omega arith), ne-eqb (length v) 3 (λ z. omega arith), ne-eqb (length v) 5 (λ z. omega arith))
 
-verb-told : (l : List ℕ) (w : Verb) → verbOf l ≡ IsVerb w → Spells l w
+pub verb-told : (l : List ℕ) (w : Verb) → verbOf l ≡ IsVerb w → Spells l w
 unfolding verbOf
 verb-told [] w e = no-verb w e
 verb-told (a ∷ []) w e = bare-told a w e
@@ -250,7 +253,7 @@ write-text a b h l =
     ap (λ (x : List ℕ). verbOf (119 ∷ 9 ∷ glyph a ∷ 9 ∷ x)) (hex-two b)
     ∙ simp (digit-glyph a (omega arith), digit-glyph (b / 16 % 16) p, digit-glyph (b % 16) q, lt-ltb a 8 h, lt-ltb (b / 16 % 16) 16 p, lt-ltb (b % 16) 16 q, e)
 
-verb-text : (w : Verb) → VerbInRange w → verbOf (spellVerb w) ≡ IsVerb w
+pub verb-text : (w : Verb) → VerbInRange w → verbOf (spellVerb w) ≡ IsVerb w
 unfolding verbOf bareOf singleOf fiveOf pairOf sixOf writtenOf digitOf
 verb-text (Read a) h = read-text a h
 verb-text (Write a b) h = write-text a b (h .0) (h .1)
@@ -263,13 +266,130 @@ verb-text (Gate false) h = refl
 verb-text Visit h = refl
 verb-text Deadline h = refl
 
-verb-length : (w : Verb) → length (spellVerb w) ≤ 6
+pub verb-length : (w : Verb) → length (spellVerb w) ≤ 6
 verb-length (Read a) = omega arith
 verb-length (Write a b) = omega (arith, hex-length 2 b)
 verb-length (Pins scl sda) = omega arith
 verb-length (Gate g) = omega arith
 verb-length Visit = omega arith
 verb-length Deadline = omega arith
+
+-- ## Times
+
+no-time : {A : Type 0} (t : Time) (m : ℕ) → NoTime ≡ IsTime t m → A
+no-time t m e = absurd (let z : _≡_ {A = ℕ} 0 1 = cc in omega arith)
+
+units-some : (u : MaybeUnits) (f : ℕ → MaybeTime) (t : Time) (m : ℕ) → withFraction u f ≡ IsTime t m → (n : ℕ) × (u ≡ Units n) × (f n ≡ IsTime t m)
+units-some NoUnits f t m e = no-time t m e
+units-some (Units n) f t m e = (n, refl, e)
+
+seconds-some : (s : Scanned) (f : ℕ → ℕ → MaybeTime) (t : Time) (m : ℕ) → withSeconds s f ≡ IsTime t m → (n : ℕ) × (k : ℕ) × (s ≡ Seconds n k) × (f n k ≡ IsTime t m)
+seconds-some NoSeconds f t m e = no-time t m e
+seconds-some (Seconds n k) f t m e = (n, k, refl, e)
+
+-- what a time after its seconds says
+abbrev Fractioned : ℕ → ℕ → List ℕ → Time → ℕ → Type 0
+Fractioned n p l t m = (n ≡ t .seconds) × (m ≡ p + 17) × (l ≡ hexIn 16 (t .fraction) ++ 9 ∷ drop 17 l) × (t .fraction < 2 ^ 64) × (17 ≤ length l)
+
+fraction-told : (n p : ℕ) (l : List ℕ) (t : Time) (m : ℕ) → fractionAt n p l ≡ IsTime t m → Fractioned n p l t m
+unfolding fractionAt fractionOf
+fraction-told n p l t m e =
+    ⊎-elim
+    (λ a. no-time t m (a .1))
+    (λ a.
+    ⊎-elim
+    (λ b. no-time t m (b .1))
+    (λ b.
+    let f = units-some (hexFrom 16 0 l) whole t m (b .1) in
+    found (f .0) (ltb-false (length l) 17 (a .0)) (eqb-true (getD l 16 0) 9 (affirmed (eqb (getD l 16 0) 9) (b .0))) (hex-told 16 0 l (f .0) (f .1)) (f .2))
+    (chosen (not (eqb (getD l 16 0) 9)) NoTime (withFraction (hexFrom 16 0 l) whole) (IsTime t m) (a .1)))
+    (chosen (ltb (length l) 17) NoTime (cond (not (eqb (getD l 16 0) 9)) NoTime (withFraction (hexFrom 16 0 l) whole)) (IsTime t m) e)
+  where
+    whole : ℕ → MaybeTime
+    whole f = IsTime (record { seconds = n; fraction = f }) (p + 17)
+
+    affirmed : (b : Bool) → not b ≡ false → b ≡ true
+    affirmed true h = refl
+    affirmed false h = sym h
+
+    found : (f : ℕ) → 17 ≤ length l → getD l 16 0 ≡ 9 → ((l ≡ hexIn 16 f ++ drop 16 l) × (f / 16 ^ 16 ≡ 0)) → whole f ≡ IsTime t m → Fractioned n p l t m
+    found f long nine hex e =
+        let same : record { seconds = n; fraction = f } ≡ t = cc in
+        let place : p + 17 ≡ m = cc in
+        subst (λ (x : Time). Fractioned n p l x m) same (
+          refl,
+          sym place,
+          hex .0 ∙ ap (λ (x : List ℕ). hexIn 16 f ++ x) (drop-cons l 16 0 (omega arith) ∙ ap (λ (y : ℕ). y ∷ drop 17 l) nine),
+          omega (arith, hex .1),
+          long,
+        )
+
+fraction-text : (n p f : ℕ) (ys : List ℕ) → f < 2 ^ 64 → fractionAt n p (hexIn 16 f ++ 9 ∷ ys) ≡ IsTime (record { seconds = n; fraction = f }) (p + 17)
+unfolding fractionAt fractionOf
+fraction-text n p f ys r =
+    let h : length (hexIn 16 f) ≡ 16 = hex-length 16 f in
+    let long : length (hexIn 16 f ++ 9 ∷ ys) ≡ length (hexIn 16 f) + suc (length ys) = length-append (hexIn 16 f) (9 ∷ ys) in
+    let sure : f / 16 ^ 16 ≡ 0 = div-eq-of-lt r in
+    simp (le-ltb (length (hexIn 16 f ++ 9 ∷ ys)) 17 (omega arith), getD-at (hexIn 16 f) 9 ys 0 16 h, hex-text 16 0 f (9 ∷ ys) sure)
+
+-- the bytes of a time, and those after them
+time-then : (t : Time) (ys : List ℕ) → timeText t ++ ys ≡ decimalIn 20 (t .seconds) ++ 9 ∷ (hexIn 16 (t .fraction) ++ 9 ∷ ys)
+time-then t ys = simp append-assoc
+
+-- a time has at most 38 bytes
+pub time-length : (t : Time) → length (timeText t) ≤ 38
+time-length t =
+    let d = decimalIn 20 (t .seconds) in
+    let f = hexIn 16 (t .fraction) in
+    omega (arith, length-append d (9 ∷ (f ++ 9 ∷ [])), length-append f (9 ∷ []), decimal-length 20 (t .seconds), hex-length 16 (t .fraction))
+
+-- a line that a time was read of starts with its bytes
+pub record Told (l : List ℕ) (t : Time) (m : ℕ) : Type 0 where
+  pub text : l ≡ timeText t ++ drop m l
+  pub range : TimeInRange t
+  pub within : m ≤ length l
+  pub short : length l ≤ 64
+
+pub timed-told : (l : List ℕ) (t : Time) (m : ℕ) → timedOf l ≡ IsTime t m → Told l t m
+unfolding timedOf
+timed-told l t m e =
+    ⊎-elim
+    (λ a. no-time t m (a .1))
+    (λ a.
+    let s = seconds-some (secondsOf l) (λ n k. fractionAt n k (drop k l)) t m (a .1) in
+    let told = seconds-told l (s .0) (s .1) (s .2) in
+    let rest = fraction-told (s .0) (s .1) (drop (s .1) l) t m (s .3) in
+    record {
+      text = told .1
+          ∙ ap (λ (n : ℕ). decimalIn 20 n ++ 9 ∷ drop (s .1) l) (rest .0)
+          ∙ ap (λ (x : List ℕ). decimalIn 20 (t .seconds) ++ 9 ∷ x) (rest .2 ∙ ap (λ (x : List ℕ). hexIn 16 (t .fraction) ++ 9 ∷ x) (further (s .1) (rest .1)))
+          ∙ sym (time-then t (drop m l));
+      range = record { seconds = subst (λ (n : ℕ). n < 2 ^ 64) (rest .0) (told .0); fraction = rest .3 };
+      within = omega (arith, rest .1, rest .4, length-drop (s .1) l);
+      short = ltb-false 64 (length l) (a .0);
+    })
+    (chosen (ltb 64 (length l)) NoTime (withSeconds (secondsOf l) (λ n k. fractionAt n k (drop k l))) (IsTime t m) e)
+  where
+    further : (k : ℕ) → m ≡ k + 17 → drop 17 (drop k l) ≡ drop m l
+    further k e = drop-drop 17 k l ∙ ap (λ (n : ℕ). drop n l) (sym e)
+
+-- the bytes of a time are read as that time, and their end is its place
+pub timed-text : (t : Time) → TimeInRange t → (ys : List ℕ) → length (timeText t ++ ys) ≤ 64 → timedOf (timeText t ++ ys) ≡ IsTime t (length (timeText t))
+unfolding timedOf
+timed-text t r ys short =
+    let d = decimalIn 20 (t .seconds) in
+    let f = hexIn 16 (t .fraction) in
+    let rest : List ℕ = f ++ 9 ∷ ys in
+    let h : length f ≡ 16 = hex-length 16 (t .fraction) in
+    let one : length (timeText t) ≡ length d + suc (length (f ++ 9 ∷ [])) = length-append d (9 ∷ (f ++ 9 ∷ [])) in
+    let two : length (f ++ 9 ∷ []) ≡ length f + 1 = length-append f (9 ∷ []) in
+    simp (le-ltb 64 (length (timeText t ++ ys)) short)
+    (ap (λ (l : List ℕ). withSeconds (secondsOf l) (λ n k. fractionAt n k (drop k l))) (time-then t ys)
+    ∙ simp (seconds-text (t .seconds) rest (r .seconds), drop-append-add d (9 ∷ rest) 1)
+    (fraction-text (t .seconds) (length d + 1) (t .fraction) ys (r .fraction) ∙ ap (IsTime t) (sum (length d) (length (f ++ 9 ∷ [])) (length (timeText t)) one (two ∙ ap (λ (n : ℕ). n + 1) h))))
+  where
+    sum : (d f n : ℕ) → n ≡ d + suc f → f ≡ 16 + 1 → d + 1 + 17 ≡ n
+    sum d f n e g = omega arith
 
 -- ## Lines
 
@@ -280,93 +400,33 @@ verb-some : (m : MaybeVerb) (f : Verb → Parsed) (c : Call) → withVerb m f �
 verb-some NoVerb f c e = no-call c e
 verb-some (IsVerb w) f c e = (w, refl, e)
 
-units-some : (m : MaybeUnits) (f : ℕ → Parsed) (c : Call) → withFraction m f ≡ Calls c → (n : ℕ) × (m ≡ Units n) × (f n ≡ Calls c)
-units-some NoUnits f c e = no-call c e
-units-some (Units n) f c e = (n, refl, e)
-
-seconds-some : (m : Scanned) (f : ℕ → ℕ → Parsed) (c : Call) → withSeconds m f ≡ Calls c → (n : ℕ) × (k : ℕ) × (m ≡ Seconds n k) × (f n k ≡ Calls c)
-seconds-some NoSeconds f c e = no-call c e
-seconds-some (Seconds n k) f c e = (n, k, refl, e)
-
--- what follows the seconds
-abbrev afterSeconds : Call → List ℕ
-afterSeconds c = hexIn 16 (c .time .fraction) ++ 9 ∷ spellVerb (c .verb)
-
-timed-told : (n : ℕ) (l : List ℕ) (c : Call) → timedOf n l ≡ Calls c → (n ≡ c .time .seconds) × (l ≡ afterSeconds c) × (c .time .fraction < 2 ^ 64) × VerbInRange (c .verb)
-unfolding timedOf fractionOf
-timed-told n l c e =
-    ⊎-elim
-    (λ t. no-call c (t .1))
-    (λ t.
-    ⊎-elim
-    (λ u. no-call c (u .1))
-    (λ u.
-    let f = units-some (hexFrom 16 0 l) (λ f. withVerb (verbOf (drop 17 l)) (whole f)) c (u .1) in
-    let w = verb-some (verbOf (drop 17 l)) (whole (f .0)) c (f .2) in
-    found (f .0) (w .0) (ltb-false (length l) 17 (t .0)) (eqb-true (getD l 16 0) 9 (affirmed (eqb (getD l 16 0) 9) (u .0))) (hex-told 16 0 l (f .0) (f .1)) (verb-told (drop 17 l) (w .0) (w .1)) (w .2))
-    (chosen (not (eqb (getD l 16 0) 9)) Malformed (withFraction (hexFrom 16 0 l) (λ f. withVerb (verbOf (drop 17 l)) (whole f))) (Calls c) (t .1)))
-    (chosen (ltb (length l) 17) Malformed (cond (not (eqb (getD l 16 0) 9)) Malformed (withFraction (hexFrom 16 0 l) (λ f. withVerb (verbOf (drop 17 l)) (whole f)))) (Calls c) e)
-  where
-    whole : ℕ → Verb → Parsed
-    whole f v = Calls (record { time = record { seconds = n; fraction = f }; verb = v })
-
-    affirmed : (b : Bool) → not b ≡ false → b ≡ true
-    affirmed true h = refl
-    affirmed false h = sym h
-
-    found : (f : ℕ) (w : Verb) → 17 ≤ length l → getD l 16 0 ≡ 9 → ((l ≡ hexIn 16 f ++ drop 16 l) × (f / 16 ^ 16 ≡ 0)) → Spells (drop 17 l) w → whole f w ≡ Calls c
-        → (n ≡ c .time .seconds) × (l ≡ afterSeconds c) × (c .time .fraction < 2 ^ 64) × VerbInRange (c .verb)
-    found f w long nine hex s ce =
-        let same : record { time = record { seconds = n; fraction = f }; verb = w } ≡ c = cc in
-        subst (λ (x : Call). (n ≡ x .time .seconds) × (l ≡ afterSeconds x) × (x .time .fraction < 2 ^ 64) × VerbInRange (x .verb)) same (
-          refl,
-          hex .0 ∙ ap (λ (x : List ℕ). hexIn 16 f ++ x) (drop-cons l 16 0 (omega arith) ∙ ap (λ (y : ℕ). y ∷ drop 17 l) nine ∙ ap (λ (x : List ℕ). 9 ∷ x) (s .0)),
-          omega (arith, hex .1),
-          s .1,
-        )
-
-timed-text : (c : Call) → InRange c → timedOf (c .time .seconds) (afterSeconds c) ≡ Calls c
-unfolding timedOf fractionOf
-timed-text c r =
-    let f = c .time .fraction in
-    let v = spellVerb (c .verb) in
-    let h : length (hexIn 16 f) ≡ 16 = hex-length 16 f in
-    let long : length (afterSeconds c) ≡ length (hexIn 16 f) + suc (length v) = length-append (hexIn 16 f) (9 ∷ v) in
-    let sure : f / 16 ^ 16 ≡ 0 = div-eq-of-lt (r .fraction) in
-    simp (
-      le-ltb (length (afterSeconds c)) 17 (omega arith),
-      getD-at (hexIn 16 f) 9 v 0 16 h,
-      hex-text 16 0 f (9 ∷ v) sure,
-      seventeen f v h,
-      verb-text (c .verb) (r .verb),
-    )
-  where
-    seventeen : (f : ℕ) (v : List ℕ) → length (hexIn 16 f) ≡ 16 → drop 17 (hexIn 16 f ++ 9 ∷ v) ≡ v
-    seventeen f v h = ap (λ (n : ℕ). drop (n + 1) (hexIn 16 f ++ 9 ∷ v)) (sym h) ∙ drop-append-add (hexIn 16 f) (9 ∷ v) 1
+time-some : (m : MaybeTime) (f : Time → ℕ → Parsed) (c : Call) → withTime m f ≡ Calls c → (t : Time) × (k : ℕ) × (m ≡ IsTime t k) × (f t k ≡ Calls c)
+time-some NoTime f c e = no-call c e
+time-some (IsTime t k) f c e = (t, k, refl, e)
 
 -- what a line is read as spells it
 pub read-is-spelled : (l : List ℕ) (c : Call) → callOf l ≡ Calls c → (l ≡ spell c) × InRange c
 unfolding callOf
 read-is-spelled l c e =
-    ⊎-elim
-    (λ t. no-call c (t .1))
-    (λ t.
-    let s = seconds-some (secondsOf l) (λ n m. timedOf n (drop m l)) c (t .1) in
-    let told = seconds-told l (s .0) (s .1) (s .2) in
-    let rest = timed-told (s .0) (drop (s .1) l) c (s .3) in (
-      told .1 ∙ ap (λ (n : ℕ). decimalIn 20 n ++ 9 ∷ drop (s .1) l) (rest .0) ∙ ap (λ (x : List ℕ). decimalIn 20 (c .time .seconds) ++ 9 ∷ x) (rest .1),
-      record { seconds = subst (λ (n : ℕ). n < 2 ^ 64) (rest .0) (told .0); fraction = rest .2; verb = rest .3 },
-    ))
-    (chosen (ltb 64 (length l)) Malformed (withSeconds (secondsOf l) (λ n m. timedOf n (drop m l))) (Calls c) e)
+    let s = time-some (timedOf l) (λ t m. withVerb (verbOf (drop m l)) (whole t)) c e in
+    let w = verb-some (verbOf (drop (s .1) l)) (whole (s .0)) c (s .3) in
+    let told = timed-told l (s .0) (s .1) (s .2) in
+    let spelt = verb-told (drop (s .1) l) (w .0) (w .1) in
+    let same : record { time = s .0; verb = w .0 } ≡ c = same-call (record { time = s .0; verb = w .0 }) c (w .2) in
+    subst (λ (x : Call). (l ≡ spell x) × InRange x) same
+    (told .text ∙ ap (λ (x : List ℕ). timeText (s .0) ++ x) (spelt .0), record { time = told .range; verb = spelt .1 })
+  where
+    whole : Time → Verb → Parsed
+    whole t v = Calls (record { time = t; verb = v })
+
+    same-call : (a b : Call) → Calls a ≡ Calls b → a ≡ b
+    same-call a b e = cc
 
 -- a call that is spelled is read, and as that call
 pub spelled-is-read : (c : Call) → InRange c → callOf (spell c) ≡ Calls c
 unfolding callOf
 spelled-is-read c r =
-    let d = decimalIn 20 (c .time .seconds) in
-    let few : length d ≤ 20 = decimal-length 20 (c .time .seconds) in
-    let h : length (hexIn 16 (c .time .fraction)) ≡ 16 = hex-length 16 (c .time .fraction) in
-    let v : length (spellVerb (c .verb)) ≤ 6 = verb-length (c .verb) in
-    let one : length (spell c) ≡ length d + suc (length (afterSeconds c)) = length-append d (9 ∷ afterSeconds c) in
-    let two : length (afterSeconds c) ≡ length (hexIn 16 (c .time .fraction)) + suc (length (spellVerb (c .verb))) = length-append (hexIn 16 (c .time .fraction)) (9 ∷ spellVerb (c .verb)) in
-    simp (le-ltb 64 (length (spell c)) (omega arith), seconds-text (c .time .seconds) (afterSeconds c) (r .seconds), drop-append-add d (9 ∷ afterSeconds c) 1) (timed-text c r)
+    let x = timeText (c .time) in
+    let v = spellVerb (c .verb) in
+    let short : length (x ++ v) ≤ 64 = omega (arith, length-append x v, time-length (c .time), verb-length (c .verb)) in
+    simp (timed-text (c .time) (r .time) v short) (ap (λ (l : List ℕ). withVerb (verbOf l) (λ w. Calls (record { time = c .time; verb = w }))) (drop-at x v (length x) refl) ∙ simp (verb-text (c .verb) (r .verb)))

@@ -24,15 +24,15 @@ taking w l = takeOf w (l .before) (l .after)
 
 -- the window after lines that had room has taken them one after the other
 window-is : (o : Output) (k : Clocks) (p : Player) (ls : List (List ℕ)) (free : ℕ) → run o k p ls free .refusal ≡ 0
-    → run o k p ls free .player .window ≡ foldl taking (p .window) (statuses k (p .host) ls)
+    → run o k p ls free .player .seen .window ≡ foldl taking (p .seen .window) (statuses k (p .host) ls)
 unfolding statuses
-window-is o k p [] free e = ap (λ (r : Run). r .player .window) (run-no-lines o k p free)
+window-is o k p [] free e = ap (λ (r : Run). r .player .seen .window) (run-no-lines o k p free)
 window-is o k p (l ∷ ls) free e =
     ⊎-elim
     (λ h. absurd (let z : 6 ≡ 0 = sym (ap (λ (r : Run). r .refusal) (run-no-room o k p l ls free h)) ∙ e in omega arith))
     (λ h.
-    ap (λ (r : Run). r .player .window) (run-one-more o k p l ls free h)
-    ∙ window-is o k (nextPlayer k p l) ls (free - length (lineText o k p l)) (sym (ap (λ (r : Run). r .refusal) (run-one-more o k p l ls free h)) ∙ e))
+    ap (λ (r : Run). r .player .seen .window) (run-one-more o k p l ls free h)
+    ∙ window-is o k (nextPlayer o k p l) ls (free - length (lineText o k p l)) (sym (ap (λ (r : Run). r .refusal) (run-one-more o k p l ls free h)) ∙ e))
     (below-or-not free 80)
 
 pub reports-count : ReportsCount

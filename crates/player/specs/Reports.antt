@@ -31,4 +31,4 @@ statusesIn trace = statuses traceClocks freshHost (linesLeft freshPlayer (linesI
 abbrev pub ReportsCount : Type 0
 ReportsCount =
     (o : Output) (trace : List ℕ) (free : ℕ) → runOf o trace free .refusal ≡ 0
-    → reportOf (runOf o trace free .player .window) ≡ rises (latest 64 (statusesIn trace))
+    → reportOf (runOf o trace free .player .seen .window) ≡ rises (latest 64 (statusesIn trace))

@@ -19,7 +19,7 @@ use Rattle.player.specs.declared.Player.{Player}
 use Rattle.player.specs.declared.Host.{Host}
 use Rattle.player.specs.declared.Answer.{Answer}
 use Rattle.player.specs.Lines.{unclosed, linesFrom, linesIn, leftOf}
-use Rattle.player.specs.Reading.{callOf}
+use Rattle.player.specs.Reading.{timedOf, callOf}
 use Rattle.player.specs.Calls.{parsedOf, answerOf}
 use Rattle.player.specs.Answers.{textBy}
 use Rattle.player.specs.Trace.{answered, Run, stopped, then, lineText, nextPlayer, run}
@@ -106,9 +106,9 @@ parts-are-run t k p (l ∷ xs) ys free e =
     (λ h. absurd (let z : 6 ≡ 0 = sym (ap (λ (r : Run). r .refusal) (run-no-room t k p l xs free h)) ∙ e in omega arith))
     (λ h.
     let text = lineText t k p l in
-    let r = run t k (nextPlayer k p l) xs (free - length text) in
+    let r = run t k (nextPlayer t k p l) xs (free - length text) in
     run-one-more t k p l (xs ++ ys) free h
-    ∙ ap (then (length l) text) (parts-are-run t k (nextPlayer k p l) xs ys (free - length text) (sym (ap (λ (x : Run). x .refusal) (run-one-more t k p l xs free h)) ∙ e))
+    ∙ ap (then (length l) text) (parts-are-run t k (nextPlayer t k p l) xs ys (free - length text) (sym (ap (λ (x : Run). x .refusal) (run-one-more t k p l xs free h)) ∙ e))
     ∙ then-run (length l) text r (run t k (r .player) ys (free - length text - length (r .bytes)))
     ∙ ap (λ (n : ℕ). runThen (then (length l) text r) (run t k (r .player) ys n)) (fewer free (length text) (length (r .bytes)) (length (text ++ r .bytes)) (length-append text (r .bytes)))
     ∙ ap (onward t k free ys) (sym (run-one-more t k p l xs free h)))
@@ -126,14 +126,14 @@ used-is-spent t k p (l ∷ ls) free e =
     (λ h. absurd (let z : 6 ≡ 0 = sym (ap (λ (r : Run). r .refusal) (run-no-room t k p l ls free h)) ∙ e in omega arith))
     (λ h.
     ap (λ (r : Run). r .used) (run-one-more t k p l ls free h)
-    ∙ ap (λ (n : ℕ). suc (length l) + n) (used-is-spent t k (nextPlayer k p l) ls (free - length (lineText t k p l)) (sym (ap (λ (r : Run). r .refusal) (run-one-more t k p l ls free h)) ∙ e)))
+    ∙ ap (λ (n : ℕ). suc (length l) + n) (used-is-spent t k (nextPlayer t k p l) ls (free - length (lineText t k p l)) (sym (ap (λ (r : Run). r .refusal) (run-one-more t k p l ls free h)) ∙ e)))
     (below-or-not free 80)
 
 -- ## Long lines
 
 -- a line of more than 64 bytes is malformed, whatever they are
 long-is-malformed : (l : List ℕ) → 64 < length l → callOf l ≡ Malformed
-unfolding callOf
+unfolding callOf timedOf
 long-is-malformed l h = rw (lt-ltb 64 (length l) h)
 
 long-are-alike : (k : Clocks) (h : Host) (l m : List ℕ) → 64 < length l → 64 < length m → answerOf k h l ≡ answerOf k h m
@@ -167,8 +167,8 @@ cut-lines ended l m (z ∷ b) h k = by (eqb z 10) (cut-lines ended (l ++ (z ∷ 
 -- a line and the lines after it, by the line's answer
 abbrev onFrom : Output → Clocks → Player → List (List ℕ) → ℕ → ℕ → Answer → Run
 onFrom t k p ls free n a =
-    let text = textBy t (p .lines + 1) (answered p a .window) a in
-    then n text (run t k (answered p a) ls (free - length text))
+    let text = textBy t (p .lines + 1) (answered t p a .seen) a in
+    then n text (run t k (answered t p a) ls (free - length text))
 
 alike-run : (t : Output) (k : Clocks) (p : Player) {xs ys : List (List ℕ)} (free : ℕ) → Alike xs ys → Same (run t k p xs free) (run t k p ys free)
 unfolding lineText

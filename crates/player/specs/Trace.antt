@@ -27,7 +27,7 @@ abbrev pub freshHost : Host
 freshHost = record { last = First; state = defaultIic }
 
 unfoldable pub freshPlayer : Player
-freshPlayer = record { lines = 0; window = emptyWindow; host = freshHost }
+freshPlayer = record { lines = 0; seen = record { window = emptyWindow; began = First }; host = freshHost }
 
 -- after 1,000,000 lines no more is read
 abbrev pub linesLeft : Player → List (List ℕ) → List (List ℕ)
@@ -48,22 +48,22 @@ abbrev pub then : ℕ → List ℕ → Run → Run
 then n text r = record { bytes = text ++ r .bytes; used = suc n + r .used; player = r .player; refusal = r .refusal }
 
 -- a line with its answer: line numbers count every line from 1, and the window takes its status before and after
-abbrev pub answered : Player → Answer → Player
-answered p a = record { lines = p .lines + 1; window = seenBy (p .window) (p .host .state .registers .status) a; host = a .host }
+abbrev pub answered : Output → Player → Answer → Player
+answered t p a = record { lines = p .lines + 1; seen = seenBy t (p .seen) (p .host .state .registers .status) (a .host); host = a .host }
 
 -- the player after the next line
-abbrev pub nextPlayer : Clocks → Player → List ℕ → Player
-nextPlayer k p line = answered p (answerOf k (p .host) line)
+abbrev pub nextPlayer : Output → Clocks → Player → List ℕ → Player
+nextPlayer t k p line = answered t p (answerOf k (p .host) line)
 
 -- what is written for it
 unfoldable pub lineText : Output → Clocks → Player → List ℕ → List ℕ
-lineText t k p line = textBy t (p .lines + 1) (nextPlayer k p line .window) (answerOf k (p .host) line)
+lineText t k p line = textBy t (p .lines + 1) (nextPlayer t k p line .seen) (answerOf k (p .host) line)
 
 -- 6 where fewer than 80 bytes are free before a line
 unfoldable pub run : Output → Clocks → Player → List (List ℕ) → ℕ → Run
 run t k p [] free = stopped p 0
 run t k p (l ∷ ls) free =
-    cond (ltb free 80) (stopped p 6) (then (length l) (lineText t k p l) (run t k (nextPlayer k p l) ls (free - length (lineText t k p l))))
+    cond (ltb free 80) (stopped p 6) (then (length l) (lineText t k p l) (run t k (nextPlayer t k p l) ls (free - length (lineText t k p l))))
 
 -- a part of a trace, from the player that the part before left; the trace ends with it or goes on
 abbrev pub partOf : Output → Player → Bool → List ℕ → ℕ → Run

@@ -28,7 +28,7 @@ unfolding run
 run-no-room t k p l ls free h = rw (lt-ltb free 80 h)
 
 pub run-one-more : (t : Output) (k : Clocks) (p : Player) (l : List ℕ) (ls : List (List ℕ)) (free : ℕ) → 80 ≤ free
-    → run t k p (l ∷ ls) free ≡ then (length l) (lineText t k p l) (run t k (nextPlayer k p l) ls (free - length (lineText t k p l)))
+    → run t k p (l ∷ ls) free ≡ then (length l) (lineText t k p l) (run t k (nextPlayer t k p l) ls (free - length (lineText t k p l)))
 unfolding run
 run-one-more t k p l ls free h = rw (le-ltb free 80 h)
 

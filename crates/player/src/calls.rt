@@ -15,6 +15,7 @@ use super::Verb;
 use super::reading::parse;
 use super::trace_clocks;
 use super::trace_system;
+use clocks::Clocks;
 use clocks::Truth;
 use clocks::wait::Deadline;
 use iic::Byte;
@@ -147,6 +148,20 @@ fn outcome(verb: Verb, time: Time, state: Iic) -> Outcome
     }
 }
 
+// The same over any clocks.
+pub fn outcome_in(clocks: Clocks, verb: Verb, time: Time, state: Iic) -> Outcome
+    ensures { λ r. ⌜ r ≡ outcomeOf clocks time state verb ⌝ }
+{
+    match verb {
+        Verb::Read(address) => of_read(state.read(address, time, clocks)),
+        Verb::Write(address, byte) => of_step(state.write(address, byte, time, clocks)),
+        Verb::Pins(scl, sda) => of_pins(state.input_pins(scl, sda, time, clocks)),
+        Verb::Gate(gate) => of_step(state.set_gate(gate, time, clocks)),
+        Verb::Visit => of_step(state.advance(time, clocks)),
+        Verb::Deadline => of_deadline(state.deadline(clocks), state),
+    }
+}
+
 // What a call makes of the host.
 fn taken_at(time: Time, done: Outcome) -> Answer
     ensures { λ r. ⌜ r ≡ takenAt time done ⌝ }
@@ -165,7 +180,7 @@ fn taken_at(time: Time, done: Outcome) -> Answer
 
 impl Last {
     // Whether a time may follow.
-    fn admits(self, time: Time) -> bool
+    pub fn admits(self, time: Time) -> bool
         ensures { λ r. ⌜ r ≡ mayFollow self time ⌝ }
     {
         match self {

@@ -8,17 +8,19 @@ pub mod calls;
 pub mod lines;
 pub mod reading;
 pub mod text;
+pub mod wave;
 
 use clocks::Clocks;
 use clocks::Frequencies;
 use clocks::domain::Domain;
 use iic::Iic;
+use iic::Pins;
 use lines::line_end;
 use lines::past;
 use time::Clock;
 use time::Time;
 use window::Window;
-ghost use Rattle.player.specs.declared.Output.the-variants.{Answers, Reports};
+ghost use Rattle.player.specs.declared.Output.the-variants.{Answers, Reports, Waves};
 
 // A call of the peripheral, as a verb with its operands.
 pub enum Verb {
@@ -61,6 +63,22 @@ pub enum Value {
     Moment(Time),
 }
 
+// Whose line an answer line is, with the levels and the status that the peripheral shows after it: the only peripheral of a trace, a unit of a
+// bench, or none of its units.
+pub enum Shown {
+    Alone(Pins, u8),
+    Unit(u8, Pins, u8),
+    Nobody,
+}
+
+// An answer line.
+pub struct Line {
+    pub number: u64,
+    pub refusal: u8,
+    pub value: Value,
+    pub shown: Shown,
+}
+
 // How a call of the peripheral ended: its refusal or 0, its value and the next state.
 pub struct Outcome {
     pub refusal: u8,
@@ -75,16 +93,23 @@ pub struct Answer {
     pub host: Host,
 }
 
-// What is written for a line: its answer line, or its number and the window's report after it.
+// What is written for a line: its answer line, its number and the window's report after it, or the signals after it.
 pub enum Output {
     Answers,
     Reports,
+    Waves,
+}
+
+// What is kept of the lines played so far: the window, and where signals are written the time of the first that wasn't refused 4 or 5.
+pub struct Seen {
+    pub window: Window,
+    pub began: Last,
 }
 
 // The lines played so far, and what they left.
 pub struct Player {
     pub lines: u64,
-    pub window: Window,
+    pub seen: Seen,
     pub host: Host,
 }
 
@@ -142,7 +167,10 @@ impl Player {
     {
         Player {
             lines: 0,
-            window: Window::empty(),
+            seen: Seen {
+                window: Window::empty(),
+                began: Last::First,
+            },
             host: Host {
                 last: Last::First,
                 state: Iic::new(),
@@ -155,7 +183,7 @@ impl Player {
         ensures { λ r. ⌜ (r ≡ progressOf (length (now (part .entry))) (partOf output self ended (now (part .entry)) (length (now (out .entry))))) × (now (out .exit) ≡ over (partOf output self ended (now (part .entry)) (length (now (out .entry)))) (now (out .entry))) ⌝ }
     {
         let mut host = self.host;
-        let mut window = self.window;
+        let mut seen = self.seen;
         let mut lines = self.lines;
         let mut at = 0usize;
         let mut written = 0usize;
@@ -173,29 +201,22 @@ impl Player {
                     used: at,
                     written,
                     refusal: 6,
-                    player: Player {
-                        lines,
-                        window,
-                        host,
-                    },
+                    player: Player { lines, seen, host },
                 };
             }
             let answer = host.answer(&part[at..end]);
             lines += 1;
-            window = answer.seen_by(window, host.state.registers.status);
+            let before = host.state.registers.status;
             host = answer.host;
-            written += answer.write(output, window, &mut out[written..], lines);
+            seen = seen.after(output, before, host);
+            written += answer.write(output, seen, &mut out[written..], lines);
             at = past(end, part.len());
         }
         Progress {
             used: at,
             written,
             refusal: 0,
-            player: Player {
-                lines,
-                window,
-                host,
-            },
+            player: Player { lines, seen, host },
         }
     }
 }
@@ -226,4 +247,12 @@ pub extern "C" fn busy_trace(trace: &[u8], out: &mut [u8]) -> usize
     ensures { λ r. ⌜ (r ≡ summaryOf (runOf Reports (now (trace .entry)) (length (now (out .entry)))) .written) × (now (out .exit) ≡ over (runOf Reports (now (trace .entry)) (length (now (out .entry)))) (now (out .entry))) ⌝ }
 {
     play(Output::Reports, trace, out).written
+}
+
+// The signals of a whole trace, in the same way: what stands behind the header of a VCD file.
+#[no_mangle]
+pub extern "C" fn wave_trace(trace: &[u8], out: &mut [u8]) -> usize
+    ensures { λ r. ⌜ (r ≡ summaryOf (runOf Waves (now (trace .entry)) (length (now (out .entry)))) .written) × (now (out .exit) ≡ over (runOf Waves (now (trace .entry)) (length (now (out .entry)))) (now (out .entry))) ⌝ }
+{
+    play(Output::Waves, trace, out).written
 }

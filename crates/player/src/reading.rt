@@ -2,11 +2,17 @@
 ghost use mathlib.Core.Path.{_≡_};
 ghost use Prim.Native.Nat.{_+_, _^_, _≤_, _<_};
 ghost use lib.ListN.{length};
-ghost use Rattle.player.specs.Reading.{digitOf, closedBy, secondsOf, fractionOf, bareOf, singleOf, pairOf, writtenOf, fiveOf, sixOf, verbOf, timedOf, callOf};
+ghost use Rattle.player.specs.Reading.{digitOf, closedBy, secondsOf, fractionOf, bareOf, singleOf, pairOf, writtenOf, fiveOf, sixOf, verbOf, fractionAt, timedOf, callOf};
 use super::Call;
 use super::Parsed;
 use super::Verb;
 use time::Time;
+
+// A time and the place after its second tab.
+pub enum MaybeTime {
+    NoTime,
+    IsTime(Time, usize),
+}
 
 // Seconds and the place after their tab.
 pub enum Scanned {
@@ -25,7 +31,7 @@ pub enum MaybeVerb {
 }
 
 // The value of a lower-case hexadecimal digit, 16 for another byte.
-fn digit(b: u8) -> u8
+pub fn digit(b: u8) -> u8
     ensures { λ r. ⌜ (r ≡ digitOf b) × (r ≤ 16) ⌝ }
 {
     let decimal = (48 <= b) & (b < 58);
@@ -187,7 +193,7 @@ fn six(v: &[u8]) -> MaybeVerb
 }
 
 // A verb with its operands.
-fn verb(v: &[u8]) -> MaybeVerb
+pub fn verb(v: &[u8]) -> MaybeVerb
     ensures { λ r. ⌜ r ≡ verbOf (now (v .entry)) ⌝ }
 {
     if v.len() == 6 {
@@ -205,37 +211,45 @@ fn verb(v: &[u8]) -> MaybeVerb
     MaybeVerb::NoVerb
 }
 
-// What follows the seconds and their tab: a fraction, a tab, a verb with its operands.
-fn timed(rest: &[u8], seconds: u64) -> Parsed
-    ensures { λ r. ⌜ r ≡ timedOf seconds (now (rest .entry)) ⌝ }
+// What follows the seconds and their tab: a fraction and its tab. The seconds end at that place of the line.
+fn fraction_at(rest: &[u8], seconds: u64, place: usize) -> MaybeTime
+    requires { ⌜ place ≤ 64 ⌝ }
+    ensures { λ r. ⌜ r ≡ fractionAt seconds place (now (rest .entry)) ⌝ }
 {
     if rest.len() < 17 {
-        return Parsed::Malformed;
+        return MaybeTime::NoTime;
     }
     if rest[16] != b'\t' {
-        return Parsed::Malformed;
+        return MaybeTime::NoTime;
     }
     let MaybeUnits::Units(fraction) = fraction(rest) else {
-        return Parsed::Malformed;
+        return MaybeTime::NoTime;
     };
-    let MaybeVerb::IsVerb(verb) = verb(&rest[17..]) else {
-        return Parsed::Malformed;
+    MaybeTime::IsTime(Time { seconds, fraction }, place + 17)
+}
+
+// The time at the start of a line of at most 64 bytes.
+pub fn timed(line: &[u8]) -> MaybeTime
+    ensures { λ r. ⌜ r ≡ timedOf (now (line .entry)) ⌝ }
+{
+    if 64 < line.len() {
+        return MaybeTime::NoTime;
+    }
+    let Scanned::Seconds(seconds, next) = seconds(line) else {
+        return MaybeTime::NoTime;
     };
-    Parsed::Calls(Call {
-        time: Time { seconds, fraction },
-        verb,
-    })
+    fraction_at(&line[next..], seconds, next)
 }
 
 // The call that a line means.
 pub fn parse(line: &[u8]) -> Parsed
     ensures { λ r. ⌜ r ≡ callOf (now (line .entry)) ⌝ }
 {
-    if 64 < line.len() {
-        return Parsed::Malformed;
-    }
-    let Scanned::Seconds(seconds, next) = seconds(line) else {
+    let MaybeTime::IsTime(time, next) = timed(line) else {
         return Parsed::Malformed;
     };
-    timed(&line[next..], seconds)
+    let MaybeVerb::IsVerb(verb) = verb(&line[next..]) else {
+        return Parsed::Malformed;
+    };
+    Parsed::Calls(Call { time, verb })
 }

@@ -12,7 +12,7 @@ use lib.Seq.{take-all, length-take-le}
 use borrow.Author.Tests.{lt-ltb}
 use Rattle.player.specs.declared.Parsed.the-variants.{Malformed}
 use Rattle.player.specs.declared.Answer.{Answer}
-use Rattle.player.specs.Reading.{callOf}
+use Rattle.player.specs.Reading.{timedOf, callOf}
 use Rattle.player.specs.Calls.{parsedOf, answerOf}
 use Rattle.player.specs.Trace.{traceClocks}
 use Rattle.search.specs.declared.Found.{Found}
@@ -26,7 +26,7 @@ cut [] = []
 cut (l ∷ ls) = take 65 l ∷ cut ls
 
 malformed : (l : List ℕ) → 64 < length l → callOf l ≡ Malformed
-unfolding callOf
+unfolding callOf timedOf
 malformed l h = rw (lt-ltb 64 (length l) h)
 
 cut-call : (l : List ℕ) → callOf (take 65 l) ≡ callOf l

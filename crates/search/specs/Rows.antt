@@ -3,7 +3,7 @@
 -- Assumes nothing.
 use mathlib.Core.Path.{_≡_, refl}
 use mathlib.Core.List.{[], _∷_}
-use Rattle.player.specs.Reading.{digitOf, closedBy, scan, secondsOf, callOf}
+use Rattle.player.specs.Reading.{digitOf, closedBy, scan, secondsOf, timedOf, callOf}
 use Rattle.player.specs.Calls.{answerOf}
 use Rattle.search.specs.declared.Found.the-variants.{At, Refused}
 use Rattle.search.specs.Shortest.{unplayed, lastAnswer, drawnBy, earliestOf, leastOf, shortestOf}
@@ -14,5 +14,5 @@ rows : (shortestOf [] 4 0 ≡ Refused 18)
     × (shortestOf ([] ∷ [] ∷ []) 0 1 ≡ Refused 17)
     × (shortestOf ([] ∷ [] ∷ []) 0 2 ≡ Refused 18)
     × (shortestOf ([] ∷ [] ∷ []) 5 2 ≡ Refused 18)
-unfolding shortestOf leastOf earliestOf drawnBy lastAnswer unplayed answerOf callOf secondsOf scan closedBy digitOf
+unfolding shortestOf leastOf earliestOf drawnBy lastAnswer unplayed answerOf callOf timedOf secondsOf scan closedBy digitOf
 rows = (refl, refl, refl, refl, refl, refl)

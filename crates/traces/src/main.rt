@@ -1,5 +1,5 @@
 // Plays traces with every verb, every refusal that a trace can draw and every malformed form, each from a file of data/, through `player::play`
-// into a lent buffer: the answer lines, and then a line of the bytes written, the lines played and 0 or 6.
+// into a lent buffer: the answer lines, reports or signals, and then a line of the bytes written, the lines played and 0 or 6.
 //
 // The file stdout isn't made by the port: `compare/plain-answers` makes it of data/ with the plain Rust player of compare/, which plays the
 // unmodified sources, and adds the line of the three numbers. Which overflows are 13 the Rust doesn't tell: a comment beside the trace does. The
@@ -66,6 +66,12 @@ fn busy(name: &[u8]) {
     file(Output::Reports, name, &mut out);
 }
 
+// The signals, with room for all.
+fn wave(name: &[u8]) {
+    let mut out = io::large_buffer();
+    file(Output::Waves, name, &mut out);
+}
+
 fn forms() {
     all(b"document-01.trace");
     all(b"verbs.trace");
@@ -110,9 +116,20 @@ fn reports() {
     busy(b"random-1.trace");
 }
 
+fn signals() {
+    wave(b"empty.trace");
+    wave(b"document-01.trace");
+    wave(b"first-time-0.trace");
+    wave(b"times.trace");
+    wave(b"malformed.trace");
+    wave(b"refused-7.trace");
+    wave(b"arbitration-loss.trace");
+}
+
 fn main() {
     forms();
     ends();
     transfers();
     reports();
+    signals();
 }

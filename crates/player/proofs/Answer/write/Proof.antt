@@ -22,6 +22,12 @@ report-requires c κs = search needs
 write-report-requires : tie.Need-write-report-requires
 write-report-requires c κs = search needs
 
+enum-told-3 : tie.Need-enum-told-3
+enum-told-3 c = search needs
+
+write-wave-requires : tie.Need-write-wave-requires
+write-wave-requires c κs = search needs
+
 same-length : tie.Need-same-length
 same-length c = search needs
 
@@ -34,6 +40,12 @@ same-length-2 c = search needs
 returns-2 : tie.Need-returns-2
 returns-2 c = simp (c .before .before .before .before .before .enum-told2 .given .1, ← c .before .before .before .report .ensures .0) (c .before .before .write-report .ensures)
 
+same-length-3 : tie.Need-same-length-3
+same-length-3 c = search needs
+
+returns-3 : tie.Need-returns-3
+returns-3 c = simp (c .before .before .before .before .enum-told3 .given .1) (c .before .before .write-wave .ensures)
+
 pub write-spec : {M : Type 1} → statement M
 write-spec =
     tie.close
@@ -43,7 +55,11 @@ write-spec =
     enum-told-2
     report-requires
     write-report-requires
+    enum-told-3
+    write-wave-requires
     same-length
     returns
     same-length-2
-    returns-2)
+    returns-2
+    same-length-3
+    returns-3)

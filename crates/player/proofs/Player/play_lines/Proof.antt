@@ -17,11 +17,11 @@ use Rattle.player.proofs.Player.play_lines.Statement.{statement}
 use Rattle.player.proofs.Player.play_lines.Tie as tie
 
 abbrev Inv-loop : tie.InvT-loop
-Inv-loop output part ended out₀ host₀ window₀ lines₀ at₀ written₀ out host window lines at written =
-    Going output traceClocks ended part out₀ (record { lines = lines₀; window = window₀; host = host₀ }) out (record { lines = lines; window = window; host = host }) at written
+Inv-loop output part ended out₀ host₀ seen₀ lines₀ at₀ written₀ out host seen lines at written =
+    Going output traceClocks ended part out₀ (record { lines = lines₀; seen = seen₀; host = host₀ }) out (record { lines = lines; seen = seen; host = host }) at written
 
 abbrev μ-loop : tie.MeasureT-loop
-μ-loop output part ended out₀ host₀ window₀ lines₀ at₀ written₀ out host window lines at written = length part - at
+μ-loop output part ended out₀ host₀ seen₀ lines₀ at₀ written₀ out host seen lines at written = length part - at
 
 loop-holds : tie.Need-loop-holds Inv-loop μ-loop
 loop-holds c = let a = c .before .before .before .before .args in going (a .output) _ (a .ended) (a .part .now) (a .out .now) _
@@ -60,8 +60,8 @@ answer-requires c κs = search needs
 add-lines : tie.Need-add-lines Inv-loop μ-loop
 add-lines c = omega (arith, c .before .before .before .before .before .if1 .left)
 
-seen-by-requires : tie.Need-seen-by-requires Inv-loop μ-loop
-seen-by-requires c κs = search needs
+after-requires : tie.Need-after-requires Inv-loop μ-loop
+after-requires c κs = search needs
 
 sub-write : tie.Need-sub-write Inv-loop μ-loop
 sub-write c = let g = c .before .before .before .before .before .before .before .before .before .loop .inv in omega (arith, g .written-le, g .long)
@@ -102,8 +102,8 @@ loop-again c =
     going-as (sym (tail-put (v .written) (v .out) (w .last .1 .1 .1 .0)))
     (again (v .inv) (e .result) (c .before .before .before .before .before .before .before .before .before .before .before .before .before .loop-test .taken) (c .before .before .before .before .before .before .before .before .before .before .before .before .if1 .left) (e .ensures) (line-within _ _ _ (c .before .before .before .before .before .before .before .before .before .before .before .before .before .loop-test .taken) (e .ensures)) (c .before .before .before .before .before .before .before .before .before .before .if2 .left)
     (subst (λ (n : ℕ). 80 ≤ n - v .written) (v .inv .long) (c .before .before .before .before .before .before .before .before .before .if3 .left))
-    (c .before .before .before .before .before .before .before .answer .result) (c .before .before .before .before .before .before .before .answer .ensures) (w .last .1 .1 .1 .0) (w .result) (c .past .result) (c .before .before .before .before .before .before .seen-by .result) (c .before .before .before .before .before .before .seen-by .ensures)
-    (subst (λ (l : List ℕ). Put l (w .last .1 .1 .1 .0) 0 (w .result) (textBy (c .before .before .before .before .before .before .before .before .before .before .before .before .before .before .before .before .before .before .before .args .output) (v .lines + 1) (c .before .before .before .before .before .before .seen-by .result) (c .before .before .before .before .before .before .before .answer .result))) (tail-mid (v .written) (v .out)) (w .ensures))
+    (c .before .before .before .before .before .before .before .answer .result) (c .before .before .before .before .before .before .before .answer .ensures) (w .last .1 .1 .1 .0) (w .result) (c .past .result) (c .before .before .before .before .before .after .result) (c .before .before .before .before .before .after .ensures)
+    (subst (λ (l : List ℕ). Put l (w .last .1 .1 .1 .0) 0 (w .result) (textBy (c .before .before .before .before .before .before .before .before .before .before .before .before .before .before .before .before .before .before .before .args .output) (v .lines + 1) (c .before .before .before .before .before .after .result) (c .before .before .before .before .before .before .before .answer .result))) (tail-mid (v .written) (v .out)) (w .ensures))
     (w .kept .1 .1 .1 .0 ∙ ap length (tail-mid (v .written) (v .out))) (c .past .ensures))
 
 same-length-2 : tie.Need-same-length-2 Inv-loop μ-loop
@@ -149,7 +149,7 @@ play-lines-spec =
     part-answer-end
     answer-requires
     add-lines
-    seen-by-requires
+    after-requires
     sub-write
     part-write-start
     part-write-end
