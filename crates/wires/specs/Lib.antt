@@ -1,0 +1,15 @@
+pub mod Units
+pub mod Statement
+pub mod Views
+pub mod Rules
+pub mod Held
+pub mod Kicks
+pub mod Registers
+pub mod RuleLaws
+pub mod Edges
+pub mod Clocking
+pub mod Visits
+pub mod Passes
+pub mod FirstPass
+pub mod Proof
+pub mod Rows
