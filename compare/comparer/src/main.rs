@@ -1,5 +1,6 @@
 //! Compares the port with the unmodified Rust, call by call: on every boundary, then at random.
 mod differences;
+mod examples;
 mod flags;
 mod hosts;
 mod inputs;
@@ -7,6 +8,7 @@ mod judge;
 mod options;
 mod part;
 mod peripheral;
+mod program;
 mod report;
 mod searches;
 mod sensor;
