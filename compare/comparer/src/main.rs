@@ -1,4 +1,5 @@
 //! Compares the port with the unmodified Rust, call by call: on every boundary, then at random.
+mod bench;
 mod differences;
 mod examples;
 mod flags;
@@ -36,6 +37,7 @@ fn main() -> ExitCode {
             "traces" => traces::compare(&options),
             "shortest" => searches::compare(&options),
             "sensor" => sensor::compare(&options),
+            "bench" => bench::compare(&options),
             "rates" => peripheral::compare_rates(&options),
             _ => peripheral::compare(&options),
         };
