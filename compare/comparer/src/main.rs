@@ -1,5 +1,7 @@
 //! Compares the port with the unmodified Rust, call by call: on every boundary, then at random.
+mod bench;
 mod differences;
+mod examples;
 mod flags;
 mod hosts;
 mod inputs;
@@ -7,6 +9,7 @@ mod judge;
 mod options;
 mod part;
 mod peripheral;
+mod program;
 mod report;
 mod searches;
 mod sensor;
@@ -34,6 +37,7 @@ fn main() -> ExitCode {
             "traces" => traces::compare(&options),
             "shortest" => searches::compare(&options),
             "sensor" => sensor::compare(&options),
+            "bench" => bench::compare(&options),
             "rates" => peripheral::compare_rates(&options),
             _ => peripheral::compare(&options),
         };

@@ -4,7 +4,7 @@
 #[derive(Clone, PartialEq, Eq, Debug)]
 pub struct Options {
     pub seed: u64,
-    /// Random calls, lines of traces, searches, or edges.
+    /// Random calls, those of a bench's units too, lines of traces, searches, or edges.
     pub count: u64,
     /// Whether what takes long and tells little is left out.
     pub quick: bool,
@@ -12,7 +12,7 @@ pub struct Options {
 }
 
 /// What can be compared by itself, and the count of each in the quick run.
-const PARTS: [(&str, u64); 9] = [
+const PARTS: [(&str, u64); 10] = [
     ("time", 4_000_000),
     ("clocks", 4_000_000),
     ("iic", 5_000_000),
@@ -22,6 +22,7 @@ const PARTS: [(&str, u64); 9] = [
     ("shortest", 50_000),
     ("sensor", 5_000_000),
     ("rates", 2_000_000),
+    ("bench", 2_000_000),
 ];
 /// Where runs of the peripheral can begin.
 const ORIGINS: [&str; 2] = ["default", "made"];

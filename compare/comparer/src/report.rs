@@ -1,5 +1,6 @@
 //! Counts of the calls of a function by their ends, and the differences found.
 use crate::judge::{Expected, Judge};
+use crate::shrink::SHOWN;
 use std::collections::BTreeMap;
 use words::calls::{End, Function};
 use words::layout::{Args, Set};
@@ -11,6 +12,31 @@ pub fn hide_traps() {
             eprintln!("compare: {panic}");
         }
     }));
+}
+
+/// Differences of a part.
+pub struct Differences {
+    pub count: u64,
+    /// How many of them are made smaller and printed.
+    pub shown: u64,
+}
+
+impl Default for Differences {
+    fn default() -> Self {
+        Self { count: 0, shown: SHOWN }
+    }
+}
+
+impl Differences {
+    /// Counts one, and tells whether it is one of those that are shown.
+    pub fn add(&mut self, what: &str) -> bool {
+        self.count += 1;
+        let shown = self.count <= self.shown;
+        if shown {
+            println!("difference: {what}");
+        }
+        shown
+    }
 }
 
 /// How often the port and the builds of the Rust ended a call in ways that aren't the same: by the call, by the ends of the

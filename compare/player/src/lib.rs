@@ -1,5 +1,7 @@
-//! Plays traces, as document 01 has them ("The trace player"), over the peripheral of docs/src.
+//! Plays traces, as document 01 has them ("The trace player"), and scripts for several peripherals (document 02, (g)), over
+//! the peripheral of docs/src.
 mod answer;
+pub mod bench;
 mod busy;
 mod line;
 mod player;

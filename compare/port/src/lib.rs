@@ -1,5 +1,6 @@
-//! The port, through the exported functions of the crates probe, player, search and sensor_calls, and of those that
-//! requests under way add.
+//! The port, through the exported functions of the crates probe, player, search, sensor_calls, bench and
+//! bench_calls.
+pub mod bench;
 pub mod iic;
 pub mod player;
 pub mod search;

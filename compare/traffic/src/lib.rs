@@ -1,4 +1,5 @@
-//! Hosts that use the peripheral on a bus with others, and traces of what they do.
+//! Hosts that use the peripheral on a bus with others, and traces of what they do; scripts for several units.
+pub mod bench;
 pub mod exact;
 pub mod host;
 pub mod random;

@@ -5,6 +5,11 @@ use words::iic::{self, Call};
 
 /// A bad line, without a newline, after one at the time `last`.
 pub fn line(random: &mut Random, last: u128) -> Vec<u8> {
+    worse(random, last, good)
+}
+
+/// A line that is made for a time: at an earlier one, or spoilt.
+pub fn worse(random: &mut Random, last: u128, good: impl FnOnce(&mut Random, u128) -> Vec<u8>) -> Vec<u8> {
     let early = random.once_in(3);
     let now = match random.below(4) {
         _ if !early => last.saturating_add(1 + u128::from(random.any_length())),

@@ -117,15 +117,19 @@ impl Generator {
 /// The line of a call, without a newline.
 pub fn put((call, args): (Call, Args), out: &mut Vec<u8>) {
     let [seconds, fraction, first, second] = core::array::from_fn(|place| args[place]);
-    let call = match call {
+    out.extend(format!("{seconds}\t{fraction:016x}\t{}", verb(call, [first, second])).bytes());
+}
+
+/// The verb and the operands of a call.
+pub fn verb(call: Call, [first, second]: [u64; 2]) -> String {
+    match call {
         Call::Read => format!("r\t{}", first & 7),
         Call::Write => format!("w\t{}\t{second:02x}", first & 7),
         Call::InputPins => format!("p\t{first}\t{second}"),
         Call::SetGate => format!("g\t{first}"),
         Call::Advance => "v".to_string(),
         Call::Deadline | Call::Validate | Call::Observe => "d".to_string(),
-    };
-    out.extend(format!("{seconds}\t{fraction:016x}\t{call}").bytes());
+    }
 }
 
 #[cfg(test)]

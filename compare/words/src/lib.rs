@@ -1,4 +1,5 @@
 //! Values as words of 64 bits. Each value of a type takes the same number of words, so that a field has one place.
+pub mod bench;
 pub mod calls;
 pub mod iic;
 pub mod layout;

@@ -407,7 +407,7 @@ fn put_waits(iic: Iic, w: &mut [u64; 75]) {
     put_wait(setup_wait, w, 32);
 }
 
-pub(crate) fn put_iic(iic: Iic, w: &mut [u64; 75])
+pub fn put_iic(iic: Iic, w: &mut [u64; 75])
     ensures { λ _. ⌜ Begins (registerWords (iic .registers)) (now (w .exit)) ⌝ }
 {
     let frame = iic.frame;

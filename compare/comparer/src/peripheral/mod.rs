@@ -80,7 +80,7 @@ pub fn new_set(random: &mut Random) -> (Set, u128) {
 }
 
 /// The same with a system clock whose start may have been moved up.
-fn moved_set(random: &mut Random) -> (Set, u128) {
+pub fn moved_set(random: &mut Random) -> (Set, u128) {
     let (mut set, _) = new_set(random);
     let moved = inputs::moved(random, system(&set));
     set[..layout::CLOCK].copy_from_slice(&moved);

@@ -1,11 +1,12 @@
 //! The shortest run of lines that draws a number: the port's `shortest_run` and its program shortest beside a plain search
 //! over the Rust, which plays every run apart.
-mod hostile;
+pub mod hostile;
 mod program;
 use crate::options::Options;
-use crate::shrink::{self, SHOWN};
+use crate::program::{is_line, Program};
+use crate::report::Differences;
+use crate::shrink;
 use plain_player::Runs;
-use program::Program;
 use std::time::Instant;
 use traffic::random::Random;
 use traffic::trace;
@@ -28,12 +29,12 @@ struct Comparison {
     asked: u64,
     /// Answers: runs of one line, of two, of 3 to 9 and of 10 and more; 17; 18.
     answers: [u64; 6],
-    differences: u64,
+    differences: Differences,
 }
 
 /// Prints what was found, and returns how many differences there are.
 pub fn compare(options: &Options) -> u64 {
-    let program = match Program::find() {
+    let program = match Program::find("shortest") {
         Ok(program) => program,
         Err(reason) => {
             println!("difference: {reason}");
@@ -42,8 +43,15 @@ pub fn compare(options: &Options) -> u64 {
     };
     let start = Instant::now();
     let random = Random::new(options.seed);
-    let mut comparison =
-        Comparison { random, program, traces: 0, searches: 0, asked: 0, answers: [0; 6], differences: 0 };
+    let mut comparison = Comparison {
+        random,
+        program,
+        traces: 0,
+        searches: 0,
+        asked: 0,
+        answers: [0; 6],
+        differences: Differences::default(),
+    };
     comparison.section("arguments", Comparison::arguments);
     comparison.section("0 to 257 lines", |c| c.lengths(options.quick));
     comparison.section("long lines", Comparison::long_lines);
@@ -56,7 +64,7 @@ pub fn compare(options: &Options) -> u64 {
     let [one, two, some, many, beyond, never] = comparison.answers;
     println!("runs of 1 line {one}, of 2 {two}, of 3 to 9 {some}, of 10 and more {many}; 17 {beyond}, 18 {never}");
     println!("shortest: seed {}, {:.1} s", options.seed, start.elapsed().as_secs_f64());
-    comparison.differences
+    comparison.differences.count
 }
 
 /// Which overflow the last of some lines draws by the port's answer lines: 13, or else 7.
@@ -74,10 +82,10 @@ fn overflow(lines: &[&[u8]]) -> u8 {
 impl Comparison {
     fn section(&mut self, name: &str, run: impl FnOnce(&mut Self)) {
         let start = Instant::now();
-        let before = [self.traces, self.searches, self.asked, self.differences];
+        let before = [self.traces, self.searches, self.asked, self.differences.count];
         run(self);
         let seconds = start.elapsed().as_secs_f64();
-        let after = [self.traces, self.searches, self.asked, self.differences];
+        let after = [self.traces, self.searches, self.asked, self.differences.count];
         let [traces, searches, asked, differences] = core::array::from_fn(|i| after[i] - before[i]);
         println!(
             "{name:<20}{traces:>8} traces{searches:>10} searches{asked:>8} by the program{seconds:>8.1} s{differences:>6} \
@@ -90,8 +98,8 @@ impl Comparison {
         for words in program::REFUSED {
             self.asked += 1;
             let said = self.program.run(words, b"\n");
-            if !matches!(&said, Ok((out, error)) if out.is_empty() && program::is_line(error)) {
-                self.differs(&format!("the program with {words:?} says {said:?}"));
+            if !matches!(&said, Ok((out, error)) if out.is_empty() && is_line(error)) {
+                self.differences.add(&format!("the program with {words:?} says {said:?}"));
             }
         }
         for (_, option) in LIMITS {
@@ -179,7 +187,7 @@ impl Comparison {
     }
 
     fn show(&mut self, trace: &[u8], number: u8, limit: u16) {
-        if !self.differs(&format!("shortest_run of {number}, limit {limit}")) {
+        if !self.differences.add(&format!("shortest_run of {number}, limit {limit}")) {
             return;
         }
         let both = |trace: &[u8]| {
@@ -212,17 +220,7 @@ impl Comparison {
         let words = [option, &[number]].concat();
         let said = self.program.run(&words, trace);
         if !matches!(&said, Ok((out, error)) if program::says(out, error, plain)) {
-            self.differs(&format!("the program with {words:?} says {said:?}, plain {plain:?}"));
+            self.differences.add(&format!("the program with {words:?} says {said:?}, plain {plain:?}"));
         }
-    }
-
-    /// Counts a difference, and tells whether it is one of those that are shown.
-    fn differs(&mut self, what: &str) -> bool {
-        self.differences += 1;
-        let shown = self.differences <= SHOWN;
-        if shown {
-            println!("difference: {what}");
-        }
-        shown
     }
 }

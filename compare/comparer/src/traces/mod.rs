@@ -1,12 +1,11 @@
 //! Whole traces: the port's `play_trace`, its program play and the plain Rust player give the same bytes.
-mod examples;
-mod players;
+pub mod players;
+use crate::examples::{self, Example};
 use crate::options::Options;
-use crate::shrink::{self, SHOWN};
-use examples::Example;
+use crate::report::Differences;
+use crate::shrink;
 use plain_player::Played;
 use players::{Feeding, Program};
-use std::path::Path;
 use std::time::Instant;
 use traffic::random::Random;
 use traffic::trace::{self, Met};
@@ -26,7 +25,7 @@ struct Comparison {
     fed: u64,
     lines: u64,
     met: Met,
-    differences: u64,
+    differences: Differences,
 }
 
 /// Prints what was found, and returns how many differences there are.
@@ -40,8 +39,15 @@ pub fn compare(options: &Options) -> u64 {
     };
     let start = Instant::now();
     let random = Random::new(options.seed);
-    let mut comparison =
-        Comparison { random, program, played: 0, fed: 0, lines: 0, met: Met::default(), differences: 0 };
+    let mut comparison = Comparison {
+        random,
+        program,
+        played: 0,
+        fed: 0,
+        lines: 0,
+        met: Met::default(),
+        differences: Differences::default(),
+    };
     comparison.section("examples", Comparison::examples);
     comparison.section("buffers of 0 to 400 bytes", Comparison::buffers);
     comparison.section("bytes at random", Comparison::noise);
@@ -57,16 +63,16 @@ pub fn compare(options: &Options) -> u64 {
     let Met { equal, at_eighth_fall } = comparison.met;
     println!("lines at the time of the line before: {equal}, ICDRR read at the eighth fall: {at_eighth_fall}");
     println!("traces: seed {}, {:.1} s", options.seed, start.elapsed().as_secs_f64());
-    comparison.differences
+    comparison.differences.count
 }
 
 impl Comparison {
     fn section(&mut self, name: &str, run: impl FnOnce(&mut Self)) {
         let start = Instant::now();
-        let before = [self.played, self.fed, self.lines, self.differences];
+        let before = [self.played, self.fed, self.lines, self.differences.count];
         run(self);
         let seconds = start.elapsed().as_secs_f64();
-        let after = [self.played, self.fed, self.lines, self.differences];
+        let after = [self.played, self.fed, self.lines, self.differences.count];
         let [played, fed, lines, differences] = core::array::from_fn(|i| after[i] - before[i]);
         println!(
             "{name:<28}{played:>10} played{fed:>8} fed{lines:>12} lines{seconds:>8.1} s{differences:>6} differences"
@@ -74,20 +80,19 @@ impl Comparison {
     }
 
     fn examples(&mut self) {
-        let folder = Path::new(env!("CARGO_MANIFEST_DIR")).join("../../examples");
-        match examples::read(&folder) {
+        match examples::traces() {
             Ok(examples) => examples.iter().for_each(|example| self.example(example)),
             Err(reason) => {
-                self.differs(&reason);
+                self.differences.add(&reason);
             }
         }
     }
 
-    fn example(&mut self, Example { name, trace, answers }: &Example) {
+    fn example(&mut self, Example { name, input: trace, answers, .. }: &Example) {
         self.check(trace, trace.len() * 3);
         self.feed(trace, Feeding::Whole);
         let played = plain_player::play_like(answers, trace, usize::MAX).bytes;
-        if played != *answers && self.differs(&format!("what stands in examples/{name}.answers")) {
+        if played != *answers && self.differences.add(&format!("what stands in examples/{name}.answers")) {
             print_parting(&played, ("the file", Ok(answers)));
         }
     }
@@ -181,11 +186,12 @@ impl Comparison {
         self.feed(&trace, Feeding::Whole);
     }
 
-    /// `play_trace` and `busy_trace` against the plain player, in a buffer of that size.
+    /// `play_trace`, `busy_trace` and `wave_trace` against the plain player, in a buffer of that size.
     fn check(&mut self, trace: &[u8], size: usize) {
         self.played += 1;
         self.compare("play_trace", trace, Output::Answers, size, |trace| players::play_trace(trace, size));
         self.compare("busy_trace", trace, Output::Reports, size, |trace| players::busy_trace(trace, size));
+        self.compare("wave_trace", trace, Output::Waves, size, |trace| players::wave_trace(trace, size));
     }
 
     /// The program against the plain player.
@@ -194,6 +200,11 @@ impl Comparison {
         let program = self.program.clone();
         self.compare("play", trace, Output::Answers, usize::MAX, |trace| program.play(&[], trace, feeding));
         self.compare("play busy", trace, Output::Reports, usize::MAX, |trace| program.play(&["busy"], trace, feeding));
+        self.compare("play wave", trace, Output::Waves, usize::MAX, |trace| {
+            let file = program.play(&["wave"], trace, feeding)?;
+            let signals = file.strip_prefix(&plain_player::header()[..]).ok_or("another header")?;
+            Ok(signals.to_vec())
+        });
     }
 
     /// One of the port's players against the plain player, with room for so many bytes.
@@ -209,7 +220,7 @@ impl Comparison {
         let plain = |ours: &Result<Vec<u8>, String>, trace: &[u8]| output.plain(ours, trace, room);
         let expected = plain(&ours, trace);
         self.lines += expected.lines as u64;
-        if ours.as_ref() == Ok(&expected.bytes) || !self.differs(who) {
+        if ours.as_ref() == Ok(&expected.bytes) || !self.differences.add(who) {
             return;
         }
         let mut lines: Vec<&[u8]> = trace.split_inclusive(|byte| *byte == b'\n').collect();
@@ -223,16 +234,6 @@ impl Comparison {
         println!("  on {}", short(&part));
         print_parting(&plain(&ours, &part).bytes, ("port", ours.as_ref()));
     }
-
-    /// Counts a difference, and tells whether it is one of those that are shown.
-    fn differs(&mut self, what: &str) -> bool {
-        self.differences += 1;
-        let shown = self.differences <= SHOWN;
-        if shown {
-            println!("difference: {what}");
-        }
-        shown
-    }
 }
 
 /// What is written for a line.
@@ -240,6 +241,7 @@ impl Comparison {
 enum Output {
     Answers,
     Reports,
+    Waves,
 }
 
 impl Output {
@@ -248,12 +250,13 @@ impl Output {
         match self {
             Output::Answers => plain_player::play_like(ours.as_deref().unwrap_or_default(), trace, room),
             Output::Reports => plain_player::busy(trace, room),
+            Output::Waves => plain_player::wave(trace, room),
         }
     }
 }
 
 /// The plain player's answer lines and another's, from the first line that isn't the same.
-fn print_parting(plain: &[u8], (who, other): (&str, Result<&Vec<u8>, &String>)) {
+pub fn print_parting(plain: &[u8], (who, other): (&str, Result<&Vec<u8>, &String>)) {
     let other = match other {
         Ok(bytes) => bytes,
         Err(reason) => return println!("  plain {}\n  {who}: {reason}", short(plain)),
@@ -264,7 +267,7 @@ fn print_parting(plain: &[u8], (who, other): (&str, Result<&Vec<u8>, &String>)) 
 }
 
 /// Bytes as text, and how many more there are than are shown.
-fn short(bytes: &[u8]) -> String {
+pub fn short(bytes: &[u8]) -> String {
     let (shown, rest) = bytes.split_at(bytes.len().min(PRINTED));
     let more = if rest.is_empty() { String::new() } else { format!(" and {} bytes more", rest.len()) };
     format!("{:?}{more}", String::from_utf8_lossy(shown))

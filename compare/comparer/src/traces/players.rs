@@ -21,9 +21,19 @@ pub fn busy_trace(trace: &[u8], size: usize) -> Result<Vec<u8>, String> {
     written_by(port::player::busy, trace, size)
 }
 
+/// The same of `wave_trace`.
+pub fn wave_trace(trace: &[u8], size: usize) -> Result<Vec<u8>, String> {
+    written_by(port::player::wave, trace, size)
+}
+
 fn written_by(call: fn(&[u8], &mut [u8]) -> usize, trace: &[u8], size: usize) -> Result<Vec<u8>, String> {
+    in_buffer(size, |out| call(trace, out))
+}
+
+/// What a call that returns the bytes written writes into a buffer of that size; an error if it alters a byte behind that.
+pub fn in_buffer(size: usize, call: impl FnOnce(&mut [u8]) -> usize) -> Result<Vec<u8>, String> {
     let mut out = vec![UNTOUCHED; size];
-    let written = call(trace, &mut out);
+    let written = call(&mut out);
     let rest = out.get(written..).ok_or_else(|| format!("{written} bytes written, and there are {size}"))?;
     if let Some(place) = rest.iter().position(|byte| *byte != UNTOUCHED) {
         return Err(format!("{written} bytes written, yet byte {} has changed", written + place));

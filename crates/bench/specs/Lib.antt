@@ -1,0 +1,10 @@
+pub mod Script
+pub mod ScriptLaws
+pub mod Units
+pub mod Turns
+pub mod Steps
+pub mod Bench
+pub mod Measure
+pub mod MomentLaws
+pub mod EndLaws
+pub mod StepLaws

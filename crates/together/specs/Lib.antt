@@ -1,0 +1,12 @@
+pub mod Calls
+pub mod Runs
+pub mod SameTime
+pub mod Stages
+pub mod UnitLaws
+pub mod CallLaws
+pub mod StepsHold
+pub mod RunsProof
+pub mod Extra
+pub mod ExtraProof
+pub mod Fits
+pub mod Rows
