@@ -6,6 +6,7 @@ mod flags;
 mod hosts;
 mod inputs;
 mod judge;
+mod maps;
 mod options;
 mod part;
 mod peripheral;
@@ -38,6 +39,7 @@ fn main() -> ExitCode {
             "shortest" => searches::compare(&options),
             "sensor" => sensor::compare(&options),
             "bench" => bench::compare(&options),
+            "maps" => maps::compare(&options),
             "rates" => peripheral::compare_rates(&options),
             _ => peripheral::compare(&options),
         };

@@ -12,7 +12,7 @@ pub struct Options {
 }
 
 /// What can be compared by itself, and the count of each in the quick run.
-const PARTS: [(&str, u64); 10] = [
+const PARTS: [(&str, u64); 11] = [
     ("time", 4_000_000),
     ("clocks", 4_000_000),
     ("iic", 5_000_000),
@@ -23,6 +23,7 @@ const PARTS: [(&str, u64); 10] = [
     ("sensor", 5_000_000),
     ("rates", 2_000_000),
     ("bench", 2_000_000),
+    ("maps", 1_000_000),
 ];
 /// Where runs of the peripheral can begin.
 const ORIGINS: [&str; 2] = ["default", "made"];

@@ -1,7 +1,8 @@
-//! The port, through the exported functions of the crates probe, player, search, sensor_calls, bench and
-//! bench_calls.
+//! The port, through the exported functions of the crates probe, player, search, sensor_calls, bench, bench_calls, map
+//! and map_calls.
 pub mod bench;
 pub mod iic;
+pub mod map;
 pub mod player;
 pub mod search;
 pub mod sensor;

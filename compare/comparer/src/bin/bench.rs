@@ -1,5 +1,5 @@
 //! Times `Clock::after` and `Clock::edges_before` of the port against the Rust's, on the same inputs in the same run,
-//! and `play_trace` against the plain player on one trace. Of the clocks either side is one call of an `extern "C"`
+//! and `play_trace` against the plain player on one trace; and a check and lookup of a full address map. Of the clocks either side is one call of an `extern "C"`
 //! function for an input, which is not inlined. The Rust's clock is made once, as its users do; the port's is its three
 //! values, handed over in each call.
 use reference::time::{Clock, Time};
@@ -142,8 +142,37 @@ fn clocks() -> Result<(), String> {
     Ok(())
 }
 
+/// A map of 64 lines of so many addresses each, the last of which takes the rest: its words and its text.
+fn full_map(width: u64) -> ([u64; 64], String) {
+    let line = |k: u64| (k * width, if k == 63 { 0xffff } else { (k + 1) * width - 1 }, k % 4);
+    let lines: [_; 64] = core::array::from_fn(|k| line(k as u64));
+    let words = lines.map(|(first, last, unit)| first | last << 16 | unit << 32);
+    (words, lines.iter().map(|(first, last, unit)| format!("{first:04x}\t{last:04x}\t{unit}\n")).collect())
+}
+
+/// The best time for each slice of the addresses, over all passes.
+fn best(addresses: &[u16], call: impl Fn(u16) -> u64) -> f64 {
+    let slice = |slice| (0..PASSES).map(|_| timed(slice, &call).0).min().unwrap_or(0);
+    addresses.chunks(SLICE).map(slice).sum::<u128>() as f64 / addresses.len() as f64
+}
+
+fn maps() -> Result<(), String> {
+    println!("nanoseconds a check and lookup in a map of 64 lines, over {INPUTS} random addresses");
+    println!("{:<20}{:>12}{:>12}", "addresses of a line", "handed in", "as a text");
+    let mut random = Random::new(1);
+    let addresses: Vec<u16> = (0..INPUTS).map(|_| random.word() as u16).collect();
+    for width in [1, 32, 1024] {
+        let (words, text) = full_map(width);
+        let found = |unit: Result<u16, _>| unit.map_or(9, u64::from);
+        let handed = best(&addresses, |address| found(port::map::of_words(&words, 64, address)));
+        let read = best(&addresses, |address| found(port::map::of_text(text.as_bytes(), address)));
+        println!("{width:<20}{handed:>12.1}{read:>12.1}");
+    }
+    Ok(())
+}
+
 fn main() -> std::process::ExitCode {
-    match clocks().and_then(|()| traces()) {
+    match clocks().and_then(|()| maps()).and_then(|()| traces()) {
         Ok(()) => std::process::ExitCode::SUCCESS,
         Err(reason) => {
             eprintln!("bench: {reason}");

@@ -1,0 +1,14 @@
+pub mod Map
+pub mod Format
+pub mod Reading
+pub mod Through
+pub mod Meaning
+pub mod MapLaws
+pub mod AcceptLaws
+pub mod Spans
+pub mod SpanLaws
+pub mod ReadingLaws
+pub mod TextLaws
+pub mod LoadLaws
+pub mod CutLaws
+pub mod ThroughLaws
