@@ -15,12 +15,15 @@ mod report;
 mod searches;
 mod sensor;
 mod shrink;
+mod side;
 mod traces;
+use options::Options;
 use std::process::ExitCode;
 use words::calls;
 
 fn main() -> ExitCode {
-    let parts = match options::read(std::env::args().skip(1)) {
+    let words: Vec<String> = std::env::args().skip(1).collect();
+    let parts = match options::read(words.iter().cloned()) {
         Ok(parts) => parts,
         Err(reason) => {
             eprintln!("compare: {reason}");
@@ -28,22 +31,34 @@ fn main() -> ExitCode {
         }
     };
     report::hide_traps();
-    let mut differences = 0;
-    for (name, options) in parts {
-        differences += match name {
-            "time" => part::compare(name, calls::TIME, &options),
-            "clocks" => part::compare(name, calls::CLOCKS, &options),
-            "hosts" => hosts::compare(&options),
-            "flags" => flags::compare(&options),
-            "traces" => traces::compare(&options),
-            "shortest" => searches::compare(&options),
-            "sensor" => sensor::compare(&options),
-            "bench" => bench::compare(&options),
-            "maps" => maps::compare(&options),
-            "rates" => peripheral::compare_rates(&options),
-            _ => peripheral::compare(&options),
-        };
-    }
-    println!("differences: {differences}");
+    let differences = match &parts[..] {
+        [(name, options)] => compare(name, options),
+        _ => side::compare(&words, &parts.iter().map(|(name, _)| *name).collect::<Vec<_>>()),
+    };
+    println!("{}{differences}", side::LAST);
     ExitCode::from(u8::from(differences != 0))
+}
+
+fn compare(name: &str, options: &Options) -> u64 {
+    match name {
+        "time" => part::compare(name, calls::TIME, options),
+        "clocks" => part::compare(name, calls::CLOCKS, options),
+        "hosts" => hosts::compare(options),
+        "flags" => flags::compare(options),
+        "traces" => told(traces::compare(options)),
+        "shortest" => told(searches::compare(options)),
+        "sensor" => sensor::compare(options),
+        "bench" => told(bench::compare(options)),
+        "maps" => told(maps::compare(options)),
+        "rates" => peripheral::compare_rates(options),
+        _ => peripheral::compare(options),
+    }
+}
+
+/// Of a part that may not run at all: why it didn't is a difference.
+fn told(differences: Result<u64, String>) -> u64 {
+    differences.unwrap_or_else(|reason| {
+        println!("difference: {reason}");
+        1
+    })
 }

@@ -60,15 +60,9 @@ struct Comparison<O> {
     differences: Differences,
 }
 
-/// Prints what was found, and returns how many differences there are.
-pub fn compare(options: &Options) -> u64 {
-    let program = match Program::find("several") {
-        Ok(program) => Some(program),
-        Err(reason) => {
-            println!("difference: {reason}");
-            return 1;
-        }
-    };
+/// Prints what was found, and returns how many differences there are, or why it can't be run.
+pub fn compare(options: &Options) -> Result<u64, String> {
+    let program = Some(Program::find("several")?);
     let start = Instant::now();
     let mut comparison = Comparison::new(options.seed, Port, program);
     comparison.section("examples", Comparison::examples);
@@ -88,7 +82,7 @@ pub fn compare(options: &Options) -> u64 {
     let [idle, refused] = comparison.idle;
     println!("{} passes of pairs with equal levels, {idle} idle visits, {refused} of them refused", comparison.pairs);
     println!("bench: seed {}, {:.1} s", options.seed, start.elapsed().as_secs_f64());
-    comparison.differences.count + missing
+    Ok(comparison.differences.count + missing)
 }
 
 /// The clock set of traces.

@@ -2,10 +2,10 @@
 //! writes through a map, beside a plain table of 65,536 entries and the Rust's peripheral.
 mod made;
 mod table;
-use crate::inputs::plain_set;
+use crate::inputs::{plain_set, FREQUENCIES};
 use crate::options::Options;
 use crate::program::{self, Program};
-use crate::shrink::SHOWN;
+use crate::report::Differences;
 use port::map::{self, Refusal};
 use std::time::Instant;
 use table::{Table, NONE};
@@ -16,8 +16,6 @@ use words::rates::Rates;
 
 /// What SAR holds in the peripherals of `crates/map_calls`.
 const SARS: [u64; 4] = [16, 32, 48, 64];
-/// `Frequencies::default`, with which the trace player's clock set is made.
-const FREQUENCIES: [u64; 3] = [3_686_400, 32_768, 1_310_720];
 const ALPHABET: &[u8] = b"0123456789abcdefAF-\t\n 3x\r\0";
 
 type Told = Result<u16, Refusal>;
@@ -30,22 +28,17 @@ struct Comparison {
     /// Maps accepted, refused 4, 19 and 20; calls that reach a peripheral, that reach none, and that draw 15.
     met: [u64; 7],
     asked: u64,
-    differences: u64,
+    differences: Differences,
 }
 
-/// Prints what was found, and returns how many differences there are.
-pub fn compare(options: &Options) -> u64 {
-    let program = match Program::find("lookup") {
-        Ok(program) => program,
-        Err(reason) => {
-            println!("difference: {reason}");
-            return 1;
-        }
-    };
+/// Prints what was found, and returns how many differences there are, or why it can't be run.
+pub fn compare(options: &Options) -> Result<u64, String> {
+    let program = Program::find("lookup")?;
     let start = Instant::now();
     let clocks = reference::Bridge::set(&plain_set(0, FREQUENCIES)).expect("no frequency is 0");
     let random = Random::new(options.seed);
-    let mut c = Comparison { random, program, clocks, lookups: 0, met: [0; 7], asked: 0, differences: 0 };
+    let mut c =
+        Comparison { random, program, clocks, lookups: 0, met: [0; 7], asked: 0, differences: Differences::default() };
     c.arguments();
     c.every_address();
     while c.lookups < options.count {
@@ -58,10 +51,10 @@ pub fn compare(options: &Options) -> u64 {
     );
     println!("calls that reach a peripheral {reached}, none {missing}; 15 {fifteen}");
     if options.count >= 1_000_000 && c.met.contains(&0) {
-        c.differs("something of these was never met");
+        c.differences.add("something of these was never met");
     }
     println!("maps: seed {}, {} lookups and calls, {:.1} s", options.seed, c.lookups, start.elapsed().as_secs_f64());
-    c.differences
+    Ok(c.differences.count)
 }
 
 impl Comparison {
@@ -71,7 +64,7 @@ impl Comparison {
             self.asked += 1;
             let said = self.program.run(words, b"0000\tffff\t0\n");
             if !matches!(&said, Ok((out, error)) if out.is_empty() && program::is_line(error)) {
-                self.differs(&format!("the program with {words:?} says {said:?}"));
+                self.differences.add(&format!("the program with {words:?} says {said:?}"));
             }
         }
     }
@@ -162,7 +155,7 @@ impl Comparison {
             (Err(_), _) => false,
         };
         if !fits {
-            self.differs(&format!("the program on {:?} says {said:?}", String::from_utf8_lossy(text)));
+            self.differences.add(&format!("the program on {:?} says {said:?}", String::from_utf8_lossy(text)));
         }
     }
 
@@ -223,14 +216,7 @@ impl Comparison {
     fn judge(&mut self, told: Told, plain: Told, what: impl FnOnce() -> String) {
         self.lookups += 1;
         if told != plain {
-            self.differs(&format!("{}\n  plain {plain:?}\n  port {told:?}", what()));
-        }
-    }
-
-    fn differs(&mut self, what: &str) {
-        self.differences += 1;
-        if self.differences <= SHOWN {
-            println!("difference: {what}");
+            self.differences.add(&format!("{}\n  plain {plain:?}\n  port {told:?}", what()));
         }
     }
 }

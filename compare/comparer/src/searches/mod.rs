@@ -32,15 +32,9 @@ struct Comparison {
     differences: Differences,
 }
 
-/// Prints what was found, and returns how many differences there are.
-pub fn compare(options: &Options) -> u64 {
-    let program = match Program::find("shortest") {
-        Ok(program) => program,
-        Err(reason) => {
-            println!("difference: {reason}");
-            return 1;
-        }
-    };
+/// Prints what was found, and returns how many differences there are, or why it can't be run.
+pub fn compare(options: &Options) -> Result<u64, String> {
+    let program = Program::find("shortest")?;
     let start = Instant::now();
     let random = Random::new(options.seed);
     let mut comparison = Comparison {
@@ -64,7 +58,7 @@ pub fn compare(options: &Options) -> u64 {
     let [one, two, some, many, beyond, never] = comparison.answers;
     println!("runs of 1 line {one}, of 2 {two}, of 3 to 9 {some}, of 10 and more {many}; 17 {beyond}, 18 {never}");
     println!("shortest: seed {}, {:.1} s", options.seed, start.elapsed().as_secs_f64());
-    comparison.differences.count
+    Ok(comparison.differences.count)
 }
 
 /// Which overflow the last of some lines draws by the port's answer lines: 13, or else 7.

@@ -2,10 +2,11 @@
 pub mod players;
 use crate::examples::{self, Example};
 use crate::options::Options;
+use crate::program::Program;
 use crate::report::Differences;
 use crate::shrink;
 use plain_player::Played;
-use players::{Feeding, Program};
+use players::{play, Feeding};
 use std::time::Instant;
 use traffic::random::Random;
 use traffic::trace::{self, Met};
@@ -28,15 +29,9 @@ struct Comparison {
     differences: Differences,
 }
 
-/// Prints what was found, and returns how many differences there are.
-pub fn compare(options: &Options) -> u64 {
-    let program = match Program::find() {
-        Ok(program) => program,
-        Err(reason) => {
-            println!("difference: {reason}");
-            return 1;
-        }
-    };
+/// Prints what was found, and returns how many differences there are, or why it can't be run.
+pub fn compare(options: &Options) -> Result<u64, String> {
+    let program = Program::find("play")?;
     let start = Instant::now();
     let random = Random::new(options.seed);
     let mut comparison = Comparison {
@@ -63,7 +58,7 @@ pub fn compare(options: &Options) -> u64 {
     let Met { equal, at_eighth_fall } = comparison.met;
     println!("lines at the time of the line before: {equal}, ICDRR read at the eighth fall: {at_eighth_fall}");
     println!("traces: seed {}, {:.1} s", options.seed, start.elapsed().as_secs_f64());
-    comparison.differences.count
+    Ok(comparison.differences.count)
 }
 
 impl Comparison {
@@ -198,10 +193,12 @@ impl Comparison {
     fn feed(&mut self, trace: &[u8], feeding: Feeding) {
         self.fed += 1;
         let program = self.program.clone();
-        self.compare("play", trace, Output::Answers, usize::MAX, |trace| program.play(&[], trace, feeding));
-        self.compare("play busy", trace, Output::Reports, usize::MAX, |trace| program.play(&["busy"], trace, feeding));
+        self.compare("play", trace, Output::Answers, usize::MAX, |trace| play(&program, &[], trace, feeding));
+        self.compare("play busy", trace, Output::Reports, usize::MAX, |trace| {
+            play(&program, &["busy"], trace, feeding)
+        });
         self.compare("play wave", trace, Output::Waves, usize::MAX, |trace| {
-            let file = program.play(&["wave"], trace, feeding)?;
+            let file = play(&program, &["wave"], trace, feeding)?;
             let signals = file.strip_prefix(&plain_player::header()[..]).ok_or("another header")?;
             Ok(signals.to_vec())
         });

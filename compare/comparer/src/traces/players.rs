@@ -1,11 +1,11 @@
 //! The port's players. Both give the answer lines and nothing else: the C export returns the bytes written alone, and
 //! the program writes all there are. The lines played and 0 or 6 are compared by the program of crates/traces, which
 //! prints them; `compare/plain-answers` works out what it has to print.
-use std::io::{self, Write};
+use crate::program::Program;
+use std::io;
 use std::os::fd::OwnedFd;
 use std::os::unix::net::UnixDatagram;
-use std::path::{Path, PathBuf};
-use std::process::{Child, Command, Stdio};
+use std::process::{Output, Stdio};
 use std::thread;
 
 /// What the rest of a buffer holds.
@@ -42,12 +42,6 @@ pub fn in_buffer(size: usize, call: impl FnOnce(&mut [u8]) -> usize) -> Result<V
     Ok(out)
 }
 
-/// The program play, `target/bin/play` of the repository.
-#[derive(Clone)]
-pub struct Program {
-    path: PathBuf,
-}
-
 /// How the program gets its standard input.
 #[derive(Clone, Copy)]
 pub enum Feeding {
@@ -58,58 +52,33 @@ pub enum Feeding {
     Pieces(usize),
 }
 
-impl Program {
-    pub fn find() -> Result<Self, String> {
-        let path = Path::new(env!("CARGO_MANIFEST_DIR")).join("../../target/bin/play");
-        if path.exists() {
-            return Ok(Self { path });
-        }
-        Err(format!("{} is missing: run `rt check play`", path.display()))
-    }
+/// What the program play writes; an error if it ends badly or says anything on standard error.
+pub fn play(program: &Program, words: &[&str], trace: &[u8], feeding: Feeding) -> Result<Vec<u8>, String> {
+    let left = match feeding {
+        Feeding::Whole => program.piped(words, trace, trace.len().max(1)),
+        Feeding::Bytes => program.piped(words, trace, 1),
+        Feeding::Pieces(most) => by_datagrams(program, words, trace, most),
+    };
+    program.named(left.and_then(written))
+}
 
-    /// What the program writes; an error if it ends badly or says anything on standard error.
-    pub fn play(&self, words: &[&str], trace: &[u8], feeding: Feeding) -> Result<Vec<u8>, String> {
-        let said = match feeding {
-            Feeding::Whole => self.piped(words, trace, trace.len().max(1)),
-            Feeding::Bytes => self.piped(words, trace, 1),
-            Feeding::Pieces(most) => self.by_datagrams(words, trace, most),
-        };
-        said.map_err(|reason| format!("{}: {reason}", self.path.display()))
-    }
-
-    fn start(&self, words: &[&str], input: Stdio) -> io::Result<Child> {
-        Command::new(&self.path).args(words).stdin(input).stdout(Stdio::piped()).stderr(Stdio::piped()).spawn()
-    }
-
-    fn piped(&self, words: &[&str], trace: &[u8], most: usize) -> io::Result<Vec<u8>> {
-        let mut child = self.start(words, Stdio::piped())?;
-        let input = child.stdin.take();
-        thread::scope(|scope| {
-            // The program may stop reading; what it wrote is judged, not that.
-            scope.spawn(move || input.map(|mut input| trace.chunks(most).try_for_each(|part| input.write_all(part))));
-            written(child)
-        })
-    }
-
-    /// A read from a socket of datagrams returns one of them, an empty one like the end of a file, which may be looked
-    /// at twice.
-    fn by_datagrams(&self, words: &[&str], trace: &[u8], most: usize) -> io::Result<Vec<u8>> {
-        let (ours, theirs) = UnixDatagram::pair()?;
-        let child = self.start(words, Stdio::from(OwnedFd::from(theirs)))?;
-        thread::scope(|scope| {
-            scope.spawn(move || {
-                let pieces = trace.chunks(most).chain([&[][..]; 2]);
-                pieces.map(|piece| ours.send(piece)).find(|sent| sent.is_err())
-            });
-            written(child)
-        })
-    }
+/// A read from a socket of datagrams returns one of them, an empty one like the end of a file, which may be looked
+/// at twice.
+fn by_datagrams(program: &Program, words: &[&str], trace: &[u8], most: usize) -> io::Result<Output> {
+    let (ours, theirs) = UnixDatagram::pair()?;
+    let child = program.start(words, Stdio::from(OwnedFd::from(theirs)))?;
+    thread::scope(|scope| {
+        scope.spawn(move || {
+            let pieces = trace.chunks(most).chain([&[][..]; 2]);
+            pieces.map(|piece| ours.send(piece)).find(|sent| sent.is_err())
+        });
+        child.wait_with_output()
+    })
 }
 
 /// What a program writes until it ends well. A Rattle program has no exit status of its own: what it says on standard
 /// error is its failure.
-fn written(child: Child) -> io::Result<Vec<u8>> {
-    let output = child.wait_with_output()?;
+fn written(output: Output) -> io::Result<Vec<u8>> {
     if output.status.success() && output.stderr.is_empty() {
         return Ok(output.stdout);
     }
