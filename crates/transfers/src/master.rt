@@ -192,14 +192,19 @@ pub(crate) struct Two {
 }
 
 impl Bench {
-    pub(crate) fn read_two(self, pointer: u8, k: Clocks) -> Two {
+    // The register's number goes out, and then the address for a read.
+    fn asked(self, pointer: u8, k: Clocks) -> Bench {
         let begun = self.put(0, 0xb0, k).put(1, 0x90, k);
         let pointed = begun.send(0x70, k).send(pointer, k).until(TEND, k);
-        let asked = pointed
+        pointed
             .put(1, 0x90, k)
             .send(0x71, k)
             .until(TEND, k)
-            .cleared(k);
+            .cleared(k)
+    }
+
+    pub(crate) fn read_two(self, pointer: u8, k: Clocks) -> Two {
+        let asked = self.asked(pointer, k);
         let began = asked.put(0, 0xa0, k).get(7, k).bench;
         let first = began.until(RDRF, k).put(3, 1, k).put(0, 0xe0, k).get(7, k);
         let ended = first.bench.until(RDRF, k).stop(k);
