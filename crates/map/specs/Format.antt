@@ -5,14 +5,12 @@ use mathlib.Core.List.{List, [], _∷_, _++_}
 use mathlib.Core.Path.{_≡_}
 use Prim.Native.Nat.{ℕ, _<_}
 use Rattle.player.specs.Numbers.{glyph, hexIn}
+use Rattle.player.specs.Answers.{dash}
 use Rattle.player.specs.Format.{tab}
 use Rattle.map.specs.declared.Unit.{Unit}
 use Rattle.map.specs.declared.Unit.the-variants.{Nobody, Number}
 use Rattle.map.specs.declared.Range.{Range}
 use Rattle.map.specs.Map.{addresses, rangeSound}
-
-abbrev pub dash : ℕ
-dash = 45
 
 abbrev pub unitGlyph : Unit → ℕ
 unitGlyph Nobody = dash

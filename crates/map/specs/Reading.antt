@@ -8,6 +8,7 @@ use lib.ListN.{length, getD, set, replicate}
 use Rattle.player.specs.declared.reading.MaybeUnits.{MaybeUnits}
 use Rattle.player.specs.declared.reading.MaybeUnits.the-variants.{NoUnits, Units}
 use Rattle.player.specs.Reading.{digitOf, hexFrom}
+use Rattle.player.specs.Answers.{dash}
 use Rattle.player.specs.Lines.{linesIn}
 use Rattle.player.specs.Format.{tab}
 use Rattle.map.specs.declared.Unit.{Unit}
@@ -23,7 +24,6 @@ use Rattle.map.specs.declared.reading.MaybeRange.{MaybeRange}
 use Rattle.map.specs.declared.reading.MaybeRange.the-variants.{NoRange, IsRange}
 use Rattle.map.specs.declared.reading.Read.{Read}
 use Rattle.map.specs.Map.{rangeSound, checkOf, lookupOf}
-use Rattle.map.specs.Format.{dash}
 
 -- ## A line
 

@@ -21,7 +21,8 @@ use Rattle.map.specs.declared.Range.{Range}
 use Rattle.map.specs.declared.reading.MaybeRange.{MaybeRange}
 use Rattle.map.specs.declared.reading.MaybeRange.the-variants.{NoRange, IsRange}
 use Rattle.map.specs.Map.{addresses, rangeSound, unitSound}
-use Rattle.map.specs.Format.{dash, unitGlyph, spellRange, InRange}
+use Rattle.player.specs.Answers.{dash}
+use Rattle.map.specs.Format.{unitGlyph, spellRange, InRange}
 use Rattle.map.specs.Reading.{addressOf, addressAt, unitOf, ifSound, withAddress, rangeOf}
 
 -- ## Addresses
