@@ -4,7 +4,7 @@ use mathlib.Core.List.{List, [], _∷_}
 use mathlib.Core.Bool.{Bool, true, false, cond, not, _&&_}
 use lib.Dec.{ltb}
 use lib.ListN.{getD}
-use Rattle.bus.specs.Bus.{levels}
+use Rattle.bus.specs.Bus.{levels, wired}
 use Rattle.bus.specs.declared.Levels.{Levels}
 use Rattle.clocks.specs.declared.Clocks.{Clocks}
 use Rattle.clocks.specs.declared.wait.Deadline.{Deadline}
@@ -83,10 +83,6 @@ isNamed k t refused s = isAt (namesOf k (After t) refused s) t
 
 abbrev pub released : Levels
 released = levels true true
-
--- UM10204 3.1.1, wired-AND: a line is high where every driver releases it
-abbrev pub wired : Levels → Levels → Levels
-wired a b = levels (a .scl && b .scl) (a .sda && b .sda)
 
 -- "one without pins counts as released"
 abbrev pub driven : Pins → Levels

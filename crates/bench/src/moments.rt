@@ -1,9 +1,10 @@
 // Which moment is next, and what the units drive.
 ghost use mathlib.Core.Path.{_≡_};
 ghost use Prim.Native.Nat.{_≤_, _<_};
-ghost use Rattle.bench.specs.Units.{driven, drivenBy, isAt, isNamed, isPresent, momentOf, namedBy, namesBy, namesOf, released, stateAt, stateIn, wired, wiresOf};
+ghost use Rattle.bench.specs.Units.{driven, drivenBy, isAt, isNamed, isPresent, momentOf, namedBy, namesBy, namesOf, released, stateAt, stateIn, wiresOf};
 use super::Bench;
 use bus::Levels;
+use bus::wired;
 use clocks::Clocks;
 use clocks::wait::Deadline;
 use iic::Iic;
@@ -12,16 +13,6 @@ use player::Last;
 use time::Time;
 use waits::ends::sooner;
 ghost use Rattle.clocks.specs.declared.wait.Deadline.the-variants.{At};
-
-// Two drivers of one pair of wires: a line is high where both release it.
-fn wired(a: Levels, b: Levels) -> Levels
-    ensures { λ r. ⌜ r ≡ wired a b ⌝ }
-{
-    Levels {
-        scl: a.scl & b.scl,
-        sda: a.sda & b.sda,
-    }
-}
 
 // Neither line is pulled.
 fn released() -> Levels

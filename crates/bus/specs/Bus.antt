@@ -14,6 +14,10 @@ levels c d = record { scl = c; sda = d }
 abbrev pub sameLevels : Levels → Levels → Bool
 sameLevels a b = Bool·beq (a .scl) (b .scl) && Bool·beq (a .sda) (b .sda)
 
+-- 3.1.1, wired-AND: a line is high where every driver releases it
+abbrev pub wired : Levels → Levels → Levels
+wired a b = levels (a .scl && b .scl) (a .sda && b .sda)
+
 -- 3.1.4, START: SDA falls while SCL is high, that is, was high and remains high
 abbrev pub isStart : Levels → Levels → Bool
 isStart old new = old .scl && new .scl && old .sda && not (new .sda)

@@ -1,7 +1,7 @@
 // The I2C bus as UM10204 describes it: start and stop on two successive pairs of levels, the order of a byte's bits, acknowledge.
 ghost use mathlib.Core.Path.{_≡_};
 ghost use Rattle.bus.specs.Bits.{flag};
-ghost use Rattle.bus.specs.Bus.{sameLevels, isStart, isStop, firstBit, shiftIn, isAcknowledge, isRead, isGeneralCall};
+ghost use Rattle.bus.specs.Bus.{sameLevels, isStart, isStop, firstBit, shiftIn, isAcknowledge, isRead, isGeneralCall, wired};
 
 // The levels of the two lines; true is high.
 pub struct Levels {
@@ -20,6 +20,16 @@ pub fn same_levels(a: Levels, b: Levels) -> bool
     ensures { λ r. ⌜ r ≡ sameLevels a b ⌝ }
 {
     (a.scl == b.scl) & (a.sda == b.sda)
+}
+
+// The levels of wires that two drive.
+pub fn wired(a: Levels, b: Levels) -> Levels
+    ensures { λ r. ⌜ r ≡ wired a b ⌝ }
+{
+    Levels {
+        scl: a.scl & b.scl,
+        sda: a.sda & b.sda,
+    }
 }
 
 // SDA falls while SCL was high and remains high.

@@ -26,18 +26,17 @@ use Rattle.iic.specs.Checks.{fellBy, halvesRefusal, interruptWith, progr
 use Rattle.iic.specs.Filter.{observes}
 use Rattle.iic.specs.Setters.{setGate, setRaw}
 use Rattle.iic.specs.State.{awake, enabled}
+use Rattle.refusals.specs.Refusals.{beforeCall, firstOf, ofState}
 use Rattle.time.specs.declared.Time.{Time}
 use Rattle.waits.specs.Ends.{halfEnd, sooner, tapRefusal, waitEnd}
 use Rattle.waits.specs.Rates.{ratesHold}
-use lib.Dec.{eqb}
-use mathlib.Core.Bool.{Bool, Bool·beq, _&&_, cond, false, not}
+use mathlib.Core.Bool.{Bool, Bool·beq, _&&_, cond, false}
 
 -- ## Refusals that stand before a call (document 01, their order): 1, where a clock that was handed in holds a zero, then 14 for the state's rate set
 -- (document 02, (f)), then 9, then 10, with the state unchanged; 0 for none
 
 abbrev pub guardBy : Bool → Iic → ℕ
-guardBy zero s =
-    cond zero 1 (cond (not (ratesHold (s .rates))) 14 (cond (not (rangesHold s)) 9 (cond (not (progressHolds s)) 10 0)))
+guardBy zero s = beforeCall zero (ratesHold (s .rates)) (rangesHold s) (progressHolds s)
 
 -- ## Registers: `peek`, `read`, `write` (197, 215, 255)
 
@@ -133,15 +132,10 @@ interruptWithEnableOf s retained = interruptWith s retained
 
 -- ## `validate`: 14, 9, 10, 11, 12, or 0 (894; document 02, (f))
 
--- the first of two refusals
-abbrev pub firstOf : ℕ → ℕ → ℕ
-firstOf a b = cond (eqb a 0) b a
-
 -- 11, 12
 unfoldable pub waitsRefusal : Iic → ℕ
 waitsRefusal s = firstOf (tapRefusal (s .«filter_wait»)) (firstOf (tapRefusal (s .«setup_wait»)) (halvesRefusal s))
 
 unfoldable pub validateOf : Iic → Time → ℕ
 validateOf s now =
-    cond (not (ratesHold (s .rates))) 14
-    (cond (not (rangesHold s && fellBy (s .«eighth_fall») now)) 9 (cond (not (progressHolds s)) 10 (waitsRefusal s)))
+    ofState (ratesHold (s .rates)) (rangesHold s && fellBy (s .«eighth_fall») now) (progressHolds s) (waitsRefusal s)

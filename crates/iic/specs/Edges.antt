@@ -1,9 +1,8 @@
 -- Definitions: what filtered levels bring: the falling clock, a condition under way, and `filtered_edges`. Numbers in brackets are lines of
 -- iic.rs.
-use Prim.Native.Nat.{_*_, _+_}
+use Prim.Native.Nat.{_*_}
 use Rattle.bus.specs.Bus.{sameLevels}
 use Rattle.bus.specs.declared.Levels.{Levels}
-use Rattle.clocks.specs.Counts.{fits}
 use Rattle.clocks.specs.declared.domain.Domain.{Domain}
 use Rattle.frames.specs.declared.Frame.{Frame}
 use Rattle.frames.specs.declared.Framing.the-variants.{InFrame, NoFrame}
@@ -21,7 +20,7 @@ use Rattle.iic.specs.Setters.{setSynchronizedHold}
 use Rattle.iic.specs.Shift.{loadTransmitOf, risingOf}
 use Rattle.iic.specs.State.{commanded, conditioned}
 use Rattle.time.specs.declared.Time.{Time}
-use Rattle.waits.specs.Half.{madeHalf}
+use Rattle.waits.specs.Half.{halfLonger}
 use Rattle.waits.specs.Rates.{periodOf}
 use Rattle.waits.specs.declared.MaybeHalf.the-variants.{Half, NoHalf}
 use Rattle.waits.specs.declared.MaybeHalf.{MaybeHalf}
@@ -32,7 +31,7 @@ use mathlib.Core.Bool.{Bool, _&&_, _||_, cond, false, not, true}
 -- ICMR's WAIT lengthens a master's wait by two clocks, paused or not (753)
 abbrev pub longer : MaybeHalf → Iic → Stepped
 longer NoHalf s = fine s
-longer (Half w) s = clockFrom (madeHalf (w .paused) (fits (w .count + 4 * periodOf (s .rates) (s .registers .control)))) s
+longer (Half w) s = clockFrom (halfLonger w (4 * periodOf (s .rates) (s .registers .control))) s
 
 -- where ICMR's WAIT asks for it (752)
 unfoldable pub insertWaitOf : Iic → Stepped

@@ -1,7 +1,7 @@
 // The eleven calls of the peripheral's host, each with its answer and, where it may change the state, the next one.
 ghost use mathlib.Core.Path.{_≡_};
 ghost use Rattle.iic.specs.Answers.{andThen};
-ghost use Rattle.iic.specs.Calls.{advanceOf, deadlineOf, endsOf, firstOf, guardBy, inputPinsOf, interruptWithEnableOf, keepStretchedOf, peekOf, pinsOf, readOf, setGateOf, turnGateOf, turnWaitsOf, validateOf, writeOf};
+ghost use Rattle.iic.specs.Calls.{advanceOf, deadlineOf, endsOf, guardBy, inputPinsOf, interruptWithEnableOf, keepStretchedOf, peekOf, pinsOf, readOf, setGateOf, turnGateOf, turnWaitsOf, validateOf, waitsRefusal, writeOf};
 use super::Ends;
 use super::Iic;
 use super::Noticed;
@@ -22,33 +22,13 @@ use clocks::domain::Domain;
 use clocks::wait::Deadline;
 use time::Time;
 
-// The first of two refusals.
-fn first_of(a: u8, b: u8) -> u8
-    ensures { λ r. ⌜ r ≡ firstOf a b ⌝ }
-{
-    let none = a == 0;
-    if none { b } else { a }
-}
-
 impl Iic {
     // 1 where a clock of the set holds a zero, then 14 for the rate set, then 9 and 10, stand before a call; 0 for none.
     pub(crate) fn guard(self, zero: bool) -> u8
         ensures { λ r. ⌜ r ≡ guardBy zero self ⌝ }
     {
-        if zero {
-            return 1;
-        }
         let rates = self.rates;
-        if !rates.hold() {
-            return 14;
-        }
-        if !self.ranges_hold() {
-            return 9;
-        }
-        if !self.progress() {
-            return 10;
-        }
-        0
+        refusals::before_call(zero, rates.hold(), self.ranges_hold(), self.progress())
     }
 
     // What a register shows.
@@ -180,21 +160,19 @@ impl Iic {
         ensures { λ r. ⌜ r ≡ validateOf self now ⌝ }
     {
         let rates = self.rates;
-        if !rates.hold() {
-            return 14;
-        }
         let eighth_fall = self.eighth_fall;
         let sound = self.ranges_hold() & eighth_fall.fell_by(now);
-        if !sound {
-            return 9;
-        }
-        if !self.progress() {
-            return 10;
-        }
+        refusals::of_state(rates.hold(), sound, self.progress(), self.waits_refusal())
+    }
+
+    // 0, or refusal 11 or 12.
+    fn waits_refusal(self) -> u8
+        ensures { λ r. ⌜ r ≡ waitsRefusal self ⌝ }
+    {
         let filter_wait = self.filter_wait;
         let setup_wait = self.setup_wait;
-        let rest = first_of(setup_wait.tap_refusal(), self.halves_refusal());
-        first_of(filter_wait.tap_refusal(), rest)
+        let rest = refusals::first_of(setup_wait.tap_refusal(), self.halves_refusal());
+        refusals::first_of(filter_wait.tap_refusal(), rest)
     }
 }
 

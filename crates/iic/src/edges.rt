@@ -5,14 +5,12 @@ ghost use Rattle.iic.specs.Edges.{edged, longer, fallAt, fallOn, falling
 use super::Iic;
 use super::Stepped;
 use bus::Levels;
-use clocks::counts::checked_add;
 use clocks::domain::Domain;
 use frames::Frame;
 use frames::Framing;
 use frames::Phase;
 use time::Time;
 use waits::MaybeHalf;
-use waits::half::made_half;
 
 impl Iic {
     // ICMR's WAIT lengthens a master's wait by two clocks.
@@ -25,7 +23,7 @@ impl Iic {
         };
         let rates = self.rates;
         let extra = 4 * (rates.period(self.registers.control) as u64);
-        self.clock_from(made_half(w.paused, checked_add(w.count, extra)))
+        self.clock_from(w.longer(extra))
     }
 
     fn fall_at(mut self, f: Frame, now: Time) -> Stepped

@@ -1,7 +1,7 @@
 -- Definitions: the signals after a line, as a VCD file has them (IEEE 1364, "Value change dump files"): `#` and a time, then for each signal its
 -- value and the byte that stands for it, a line each. No paper has them but the request, "SCL and SDA as given and as driven, the status flags,
 -- the gate, times relative to the first line".
-use mathlib.Core.Bool.{Bool, cond, _&&_, _||_}
+use mathlib.Core.Bool.{Bool, cond, _||_}
 use mathlib.Core.List.{List, [], _∷_, _++_}
 use Prim.Native.Nat.{ℕ, _+_, _-_, _*_, _/_, _^_, min}
 use lib.Dec.{eqb}
@@ -9,7 +9,7 @@ use Rattle.time.specs.declared.Time.{Time}
 use Rattle.time.specs.Time.{timeOf}
 use Rattle.bus.specs.declared.Levels.{Levels}
 use Rattle.bus.specs.Bits.{has}
-use Rattle.bus.specs.Bus.{levels}
+use Rattle.bus.specs.Bus.{wired}
 use Rattle.iic.specs.declared.Iic.{Iic}
 use Rattle.iic.specs.declared.Pins.{Pins}
 use Rattle.iic.specs.declared.Pins.the-variants.{NoPins, Driven}
@@ -48,10 +48,10 @@ sinceBegan (After first) t = nanosecondsIn (timeOf t - timeOf first)
 
 -- ## Signals
 
--- the wires themselves: low where they were reported low or are driven low (UM10204, 3.1.1)
+-- the wires themselves: low where they were reported low or are driven low
 abbrev pub wiresOf : Levels → Pins → Levels
 wiresOf given NoPins = given
-wiresOf given (Driven l) = levels (given .scl && l .scl) (given .sda && l .sda)
+wiresOf given (Driven l) = wired given l
 
 -- z where the peripheral drives neither line
 abbrev pub drivenOf : Pins → Glyphs

@@ -69,10 +69,7 @@ fn wires(given: Levels, pins: Pins) -> Levels
 {
     match pins {
         Pins::NoPins => given,
-        Pins::Driven(levels) => Levels {
-            scl: given.scl & levels.scl,
-            sda: given.sda & levels.sda,
-        },
+        Pins::Driven(levels) => bus::wired(given, levels),
     }
 }
 

@@ -6,6 +6,7 @@ pub mod UnitLaws
 pub mod CallLaws
 pub mod StepsHold
 pub mod RunsProof
+pub mod ReportLaws
 pub mod Extra
 pub mod ExtraProof
 pub mod Fits

@@ -9,6 +9,7 @@ use Rattle.time.specs.declared.Count.the-variants as count
 use Rattle.clocks.specs.declared.domain.Domain.{Domain}
 use Rattle.clocks.specs.declared.wait.Deadline.{Deadline}
 use Rattle.clocks.specs.declared.wait.Deadline.the-variants as deadline
+use Rattle.clocks.specs.Counts.{fits}
 use Rattle.clocks.specs.Domain.{domainHalfTicks, domainHalfEdge}
 use Rattle.clocks.specs.Wait.{dated}
 use Rattle.waits.specs.declared.HalfWait.{HalfWait}
@@ -58,3 +59,7 @@ halfPause w now system = cond (w .paused) (half.Made w) (madeHalf true (leftOf (
 -- `resume`: what is left, from now on; a running wait stays as it is (49)
 unfoldable pub halfResume : HalfWait → Time → Domain → NewHalf
 halfResume w now system = cond (w .paused) (halfAfter now (w .count) system) (half.Made w)
+
+-- so many half clocks more, running or paused; a sum past 64 bits is 7, and not 13 (753; document 02, (b))
+abbrev pub halfLonger : HalfWait → ℕ → NewHalf
+halfLonger w n = madeHalf (w .paused) (fits (w .count + n))

@@ -1,8 +1,9 @@
 // Waits of half clocks of the system clock.
 ghost use mathlib.Core.Path.{_≡_};
-ghost use Rattle.waits.specs.Half.{differenceOf, halfSum, further, leftOf, madeHalf, halfAfter, halfDeadline, halfPause, halfResume};
+ghost use Rattle.waits.specs.Half.{differenceOf, halfSum, further, leftOf, madeHalf, halfAfter, halfDeadline, halfPause, halfResume, halfLonger};
 use super::HalfWait;
 use super::NewHalf;
+use clocks::counts::checked_add;
 use clocks::domain::Domain;
 use clocks::wait::Deadline;
 use clocks::wait::dated;
@@ -49,7 +50,7 @@ fn left_of(n: u64, at: Count) -> Count
     }
 }
 
-pub fn made_half(paused: bool, at: Count) -> NewHalf
+fn made_half(paused: bool, at: Count) -> NewHalf
     ensures { λ r. ⌜ r ≡ madeHalf paused at ⌝ }
 {
     match at {
@@ -93,5 +94,12 @@ impl HalfWait {
             return HalfWait::after(now, self.count, system);
         }
         NewHalf::Made(self)
+    }
+
+    // So many half clocks more, running or paused; a sum past 64 bits is 7.
+    pub fn longer(self, halves: u64) -> NewHalf
+        ensures { λ r. ⌜ r ≡ halfLonger self halves ⌝ }
+    {
+        made_half(self.paused, checked_add(self.count, halves))
     }
 }

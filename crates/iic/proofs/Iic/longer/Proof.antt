@@ -23,17 +23,14 @@ cast-extra c = search needs
 mul-extra : tie.Need-mul-extra
 mul-extra c = search needs
 
-checked-add-requires : tie.Need-checked-add-requires
-checked-add-requires c κs = tt
-
-made-half-requires : tie.Need-made-half-requires
-made-half-requires c κs = tt
+longer-requires : tie.Need-longer-requires
+longer-requires c κs = tt
 
 clock-from-requires : tie.Need-clock-from-requires
 clock-from-requires c κs = tt
 
 returns-2 : tie.Need-returns-2
-returns-2 c = simp (c .clock-from .ensures, c .before .made-half .ensures, ← c .before .before .checked-add .ensures, ← c .before .before .before .period .ensures, c .before .before .before .before .before .before .clock-wait .given .1)
+returns-2 c = simp (c .clock-from .ensures, c .before .longer .ensures, ← c .before .before .period .ensures, c .before .before .before .before .before .clock-wait .given .1)
 
 pub longer-spec : {M : Type 1} → statement M
-longer-spec = tie.close (tie.spec enum-known-clock-wait enum-told fine-requires returns period-requires cast-extra mul-extra checked-add-requires made-half-requires clock-from-requires returns-2)
+longer-spec = tie.close (tie.spec enum-known-clock-wait enum-told fine-requires returns period-requires cast-extra mul-extra longer-requires clock-from-requires returns-2)
