@@ -1,4 +1,7 @@
 // The prescalers.
+ghost use mathlib.Core.Path.{_≡_};
+ghost use Prim.Native.Nat.{_%_};
+ghost use Rattle.calls.specs.Sets.{dividerBy};
 ghost use Rattle.calls.specs.Told.{Told};
 use super::half_word;
 use super::put_count;
@@ -34,7 +37,9 @@ pub(crate) fn call(number: u64, args: &[u64; 24], out: &mut [u64; 82]) -> u64
     }
 }
 
-pub(crate) fn divider_of(anchor: u64, phase: u64, running: u64) -> Divider {
+pub(crate) fn divider_of(anchor: u64, phase: u64, running: u64) -> Divider
+    ensures { λ r. ⌜ r ≡ dividerBy anchor phase running ⌝ }
+{
     Divider {
         anchor,
         phase: phase_of(phase),
@@ -42,7 +47,9 @@ pub(crate) fn divider_of(anchor: u64, phase: u64, running: u64) -> Divider {
     }
 }
 
-fn phase_of(n: u64) -> u16 {
+fn phase_of(n: u64) -> u16
+    ensures { λ r. ⌜ r ≡ n % 65536 ⌝ }
+{
     (n % 65536) as u16
 }
 

@@ -1,6 +1,7 @@
 // The clock sets.
 ghost use Prim.Native.Nat.{_≤_};
-ghost use Rattle.calls.specs.Told.{Told};
+ghost use Rattle.calls.specs.Sets.{clocksAt, domainAt, prescalerSAt, prescalerWAt};
+ghost use Rattle.calls.specs.Told.{Told, timeAt};
 ghost use Rattle.clocks.specs.Moves.{moveSystem};
 ghost use mathlib.Core.Path.{_≡_};
 use super::prescalers::divider_of;
@@ -49,6 +50,7 @@ pub fn advance(clocks: Clocks, edges: u64, out: &mut [u64; 82]) -> u64
 
 fn set_time(set: &[u64; 81], at: usize) -> Time
     requires { ⌜ at ≤ 79 ⌝ }
+    ensures { λ r. ⌜ r ≡ timeAt (now (set .entry)) at ⌝ }
 {
     Time {
         seconds: set[at],
@@ -58,6 +60,7 @@ fn set_time(set: &[u64; 81], at: usize) -> Time
 
 fn set_domain(set: &[u64; 81], at: usize) -> Domain
     requires { ⌜ at ≤ 72 ⌝ }
+    ensures { λ r. ⌜ r ≡ domainAt (now (set .entry)) at ⌝ }
 {
     Domain {
         clock: Clock {
@@ -72,7 +75,9 @@ fn set_domain(set: &[u64; 81], at: usize) -> Domain
     }
 }
 
-fn set_prescaler_s(set: &[u64; 81]) -> PrescalerS {
+fn set_prescaler_s(set: &[u64; 81]) -> PrescalerS
+    ensures { λ r. ⌜ r ≡ prescalerSAt (now (set .entry)) ⌝ }
+{
     PrescalerS {
         divider: divider_of(set[54], set[55], set[56]),
         emitted: [
@@ -93,7 +98,9 @@ fn set_prescaler_s(set: &[u64; 81]) -> PrescalerS {
     }
 }
 
-fn set_prescaler_w(set: &[u64; 81]) -> PrescalerW {
+fn set_prescaler_w(set: &[u64; 81]) -> PrescalerW
+    ensures { λ r. ⌜ r ≡ prescalerWAt (now (set .entry)) ⌝ }
+{
     PrescalerW {
         divider: divider_of(set[70], set[71], set[72]),
         emitted: [
@@ -109,7 +116,10 @@ fn set_prescaler_w(set: &[u64; 81]) -> PrescalerW {
     }
 }
 
-pub fn clocks_of(set: &[u64; 81]) -> Clocks {
+// The clock set that the words are.
+pub fn clocks_of(set: &[u64; 81]) -> Clocks
+    ensures { λ r. ⌜ r ≡ clocksAt (now (set .entry)) ⌝ }
+{
     Clocks {
         system: set_domain(set, 0),
         cpu: set_domain(set, 9),

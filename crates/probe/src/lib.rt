@@ -1,8 +1,11 @@
 // What a Rust program calls of the port, for the comparison and the benchmark. What it calls returns the number of its refusal,
 // 0 for none.
 ghost use mathlib.Core.Path.{_≡_};
+ghost use lib.ListN.{getD};
+ghost use Rattle.calls.specs.Sets.{clocksAt};
 ghost use Rattle.calls.specs.Told.{Told, Written, Begins, registerWords, timeAt, frequenciesAt};
 ghost use Rattle.clocks.specs.Clocks.{newClocks};
+ghost use Rattle.clocks.specs.Moves.{moveSystem};
 ghost use Rattle.iic.specs.State.{defaultIic};
 
 pub mod bench;
@@ -28,13 +31,15 @@ pub extern "C" fn probe_new_clocks(args: &[u64; 24], out: &mut [u64; 82]) -> u64
     calls::taps::new_clocks(args, out)
 }
 
-// The set with the start of its system clock moved up: `calls::sets::advance` says which number is returned.
+// The set with the start of its system clock moved up by as many edges as the first of `args`, or as it was where that is refused.
 #[no_mangle]
 pub extern "C" fn probe_advance_system(
     set: &[u64; 81],
     args: &[u64; 24],
     out: &mut [u64; 82],
-) -> u64 {
+) -> u64
+    ensures { λ r. ⌜ r ≡ moveSystem (getD (now (args .entry)) 0 0) (clocksAt (now (set .entry))) .refusal ⌝ }
+{
     calls::sets::advance(calls::sets::clocks_of(set), args[0], out)
 }
 
