@@ -1,4 +1,4 @@
--- Definitions: the order in which refusals of the peripheral's state are looked for (document 01, "Refusals"). 0 is none.
+-- Definitions: the order in which refusals of the peripheral's state are looked for (document 01, "Refused because of the state"; document 02, (f)). 0 is none.
 use Prim.Native.Nat.{ℕ}
 use lib.Dec.{eqb}
 use mathlib.Core.Bool.{Bool, cond, not}
