@@ -1,4 +1,5 @@
--- Definitions: the clock set that 81 words are (compare/words/src/layout.rs says where what lies).
+-- Definitions: the clock set that 81 words are, and the rate set in the 75 words of the peripheral's state
+-- (compare/words/src/layout.rs and iic.rs say where what lies).
 use Prim.Native.Nat.{_%_, _+_, suc, zero, ℕ}
 use Rattle.calls.specs.Told.{timeAt}
 use Rattle.clocks.specs.declared.Clocks.{Clocks}
@@ -6,6 +7,7 @@ use Rattle.clocks.specs.declared.domain.Domain.{Domain}
 use Rattle.clocks.specs.declared.prescaler.Divider.{Divider}
 use Rattle.clocks.specs.declared.prescaler.PrescalerS.{PrescalerS}
 use Rattle.clocks.specs.declared.prescaler.PrescalerW.{PrescalerW}
+use Rattle.waits.specs.declared.rates.Rates.{Rates}
 use lib.Dec.{eqb}
 use lib.ListN.{getD}
 use mathlib.Core.Bool.{Bool, not}
@@ -62,3 +64,12 @@ clocksAt w = record {
   «prescaler_s» = prescalerSAt w;
   «prescaler_w» = prescalerWAt w;
 }
+
+-- so many lengths, from a place on, each the low 16 bits of a word
+abbrev pub lengthsAt : ℕ → List ℕ → ℕ → List ℕ
+lengthsAt zero w at = []
+lengthsAt (suc n) w at = getD w at 0 % 65536 ∷ lengthsAt n w (at + 1)
+
+-- the rate set, the last 14 words of the state
+unfoldable pub ratesAt : List ℕ → Rates
+ratesAt w = record { «half_clocks» = lengthsAt 8 w 61; monitors = lengthsAt 4 w 69; setups = lengthsAt 2 w 73 }

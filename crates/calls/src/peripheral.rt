@@ -1,7 +1,8 @@
 // The peripheral's calls, with its state as words.
 ghost use mathlib.Core.Path.{_≡_};
+ghost use Rattle.calls.specs.Sets.{ratesAt};
 ghost use Rattle.calls.specs.Told.{Told, Begins, registerWords, byteNumber, endedNumber, truthNumber};
-ghost use Rattle.iic.specs.State.{defaultIic};
+ghost use Rattle.iic.specs.State.{defaultIic, withRatesOf};
 use super::clock_waits::put_deadline;
 use super::put_refusal;
 use super::put_truth;
@@ -29,7 +30,7 @@ pub fn fresh(state: &mut [u64; 75])
 
 // The state before the first call with the rate set that the words hold, and whether the set is refused.
 pub fn with_rates(state: &mut [u64; 75]) -> u64
-    ensures { λ r. ⌜ Begins (registerWords (defaultIic .registers)) (now (state .exit)) ⌝ }
+    ensures { λ r. ⌜ (r ≡ withRatesOf (ratesAt (now (state .entry))) .refusal) × Begins (registerWords (defaultIic .registers)) (now (state .exit)) ⌝ }
 {
     let given = Iic::with_rates(rates_of(state));
     put_iic(given.state, state);

@@ -1,7 +1,8 @@
 // The peripheral's state of words, and back. `compare/words/src/iic.rs` says where what lies.
 ghost use mathlib.Core.Path.{_≡_};
-ghost use Prim.Native.Nat.{_≤_};
+ghost use Prim.Native.Nat.{_%_, _≤_};
 ghost use lib.Seq.{sets};
+ghost use Rattle.calls.specs.Sets.{ratesAt};
 ghost use Rattle.calls.specs.Told.{Begins, registerWords};
 use super::clock_waits::state_of;
 use super::number_of;
@@ -160,11 +161,16 @@ fn fall_of(present: u64, seconds: u64, fraction: u64) -> EighthFall {
     EighthFall::FellAt(Time { seconds, fraction })
 }
 
-fn length_of(n: u64) -> u16 {
+fn length_of(n: u64) -> u16
+    ensures { λ r. ⌜ r ≡ n % 65536 ⌝ }
+{
     (n % 0x1_0000) as u16
 }
 
-pub(crate) fn rates_of(w: &[u64; 75]) -> Rates {
+// The rate set that the words hold.
+pub(crate) fn rates_of(w: &[u64; 75]) -> Rates
+    ensures { λ r. ⌜ r ≡ ratesAt (now (w .entry)) ⌝ }
+{
     Rates {
         half_clocks: [
             length_of(w[61]),

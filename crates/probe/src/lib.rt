@@ -2,11 +2,11 @@
 // 0 for none.
 ghost use mathlib.Core.Path.{_≡_};
 ghost use lib.ListN.{getD};
-ghost use Rattle.calls.specs.Sets.{clocksAt};
+ghost use Rattle.calls.specs.Sets.{clocksAt, ratesAt};
 ghost use Rattle.calls.specs.Told.{Told, Written, Begins, registerWords, timeAt, frequenciesAt};
 ghost use Rattle.clocks.specs.Clocks.{newClocks};
 ghost use Rattle.clocks.specs.Moves.{moveSystem};
-ghost use Rattle.iic.specs.State.{defaultIic};
+ghost use Rattle.iic.specs.State.{defaultIic, withRatesOf};
 
 pub mod bench;
 
@@ -67,7 +67,7 @@ pub extern "C" fn probe_iic_fresh(state: &mut [u64; 75])
 // The same with the rate set that the state's words hold, and 14 where it is refused.
 #[no_mangle]
 pub extern "C" fn probe_iic_with_rates(state: &mut [u64; 75]) -> u64
-    ensures { λ r. ⌜ Begins (registerWords (defaultIic .registers)) (now (state .exit)) ⌝ }
+    ensures { λ r. ⌜ (r ≡ withRatesOf (ratesAt (now (state .entry))) .refusal) × Begins (registerWords (defaultIic .registers)) (now (state .exit)) ⌝ }
 {
     calls::peripheral::with_rates(state)
 }

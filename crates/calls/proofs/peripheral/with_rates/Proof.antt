@@ -17,7 +17,7 @@ cast-result c = search needs
 
 returns : tie.Need-returns
 unfolding initial
-returns c = rw (c .before .before .before .with-rates .ensures) at (c .before .put-iic .ensures)
+returns c = (simp (c .before .before .before .with-rates .ensures, c .before .before .before .before .rates-of .ensures), rw (c .before .before .before .with-rates .ensures) at (c .before .put-iic .ensures))
 
 pub with-rates-spec : {M : Type 1} → statement M
 with-rates-spec =
