@@ -1,4 +1,6 @@
 // What a line of a trace does to the peripheral, and what is written for it: its answer line, its report or the signals after it.
+#![tactic(auto)]
+
 ghost use Rattle.std.specs.Prelude.{◌≡◌};
 ghost use Rattle.answers.specs.Calls.{trace_clocks};
 
@@ -15,14 +17,14 @@ use time::{Clock, Time};
 use window::Window;
 
 // The peripheral under a trace.
-#[derive(Drop)]
+#[derive(Clone, Copy)]
 pub struct Host {
     pub last: Last,
     pub state: Iic,
 }
 
 // The value in an answer line.
-#[derive(Drop)]
+#[derive(Clone, Copy)]
 pub enum Value {
     NoValue,
     Byte(u8),
@@ -32,7 +34,7 @@ pub enum Value {
 
 // Whose line an answer line is, with the levels and the status that the peripheral shows after it: the only peripheral of a trace, a unit of a
 // bench, or none of its units.
-#[derive(Drop)]
+#[derive(Clone, Copy)]
 pub enum Shown {
     Alone(Pins, u8),
     Unit(u8, Pins, u8),
@@ -40,7 +42,7 @@ pub enum Shown {
 }
 
 // An answer line.
-#[derive(Drop)]
+#[derive(Clone, Copy)]
 pub struct Line {
     pub number: u64,
     pub refusal: u8,
@@ -49,7 +51,7 @@ pub struct Line {
 }
 
 // How a call of the peripheral ended: its refusal or 0, its value and the next state.
-#[derive(Drop)]
+#[derive(Clone, Copy)]
 pub struct Outcome {
     pub refusal: u8,
     pub value: Value,
@@ -57,7 +59,7 @@ pub struct Outcome {
 }
 
 // The same of a line.
-#[derive(Drop)]
+#[derive(Clone, Copy)]
 pub struct Answer {
     pub refusal: u8,
     pub value: Value,
@@ -65,7 +67,7 @@ pub struct Answer {
 }
 
 // What is written for a line: its answer line, its number and the window's report after it, or the signals after it.
-#[derive(Drop)]
+#[derive(Clone, Copy)]
 pub enum Output {
     Answers,
     Reports,
@@ -73,7 +75,7 @@ pub enum Output {
 }
 
 // What is kept of the lines played so far: the window, and where signals are written the time of the first that wasn't refused 4 or 5.
-#[derive(Drop)]
+#[derive(Clone, Copy)]
 pub struct Seen {
     pub window: Window,
     pub began: Last,

@@ -14,7 +14,7 @@ use registers::bits::{AAS, ADZ, AL, NACKF, RDRF, STOP, TDRE, TEND};
 use time::{Moment, Time};
 
 // A byte for each of two lines.
-#[derive(Drop)]
+#[derive(Clone, Copy)]
 struct Glyphs {
     pub scl: u8,
     pub sda: u8,

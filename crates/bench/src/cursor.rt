@@ -6,7 +6,7 @@ use lines::ends::{line_end, past};
 use script::{Next, parse};
 
 // The place of the next line, the lines before it that were answered, and what it says.
-#[derive(Drop)]
+#[derive(Clone, Copy)]
 pub struct Cursor {
     pub at: usize,
     pub lines: u64,

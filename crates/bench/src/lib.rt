@@ -1,4 +1,6 @@
 // Several peripherals on one pair of wires (document 02, (g)).
+#![tactic(auto)]
+
 ghost use Rattle.std.specs.Prelude.{◌≡◌, ◌≤◌, length};
 ghost use Rattle.answers.specs.Calls.{trace_clocks};
 ghost use Rattle.bench.specs.Bench.{bench_of, over, ran, start, summary_by, summary_of};
@@ -20,7 +22,7 @@ use time::Time;
 
 // What the bench does next: goes to the earliest moment that isn't before the present one; visits, in that moment, the units from that number on;
 // plays the script lines of that moment; reports those levels to the units from that number on; or nothing, since it has ended, with 0 or a refusal.
-#[derive(Drop)]
+#[derive(Clone, Copy)]
 pub enum Doing {
     Looks(Last),
     Visits(Time, u8),
@@ -31,7 +33,7 @@ pub enum Doing {
 
 // Where a bench stands: what it does next, the time of the last script line that wasn't refused 4 or 5, the visits so far, and of each unit whether
 // its visit in the present moment was refused.
-#[derive(Drop)]
+#[derive(Clone, Copy)]
 pub struct Place {
     pub doing: Doing,
     pub last: Last,
@@ -40,21 +42,21 @@ pub struct Place {
 }
 
 // The bench: the states of its units, of which those below its number of peripherals are on the wires, and where it stands.
-#[derive(Drop)]
+#[derive(Clone, Copy)]
 pub struct Bench {
     pub states: [Iic; 4],
     pub place: Place,
 }
 
 // What a step writes: nothing, or an answer line.
-#[derive(Drop)]
+#[derive(Clone, Copy)]
 pub enum Told {
     Nothing,
     Answer(Line),
 }
 
 // What a step does to the unit that it calls: its state and the place after it, what is written for it, and whether a script line is answered by it.
-#[derive(Drop)]
+#[derive(Clone, Copy)]
 pub struct Turn {
     pub state: Iic,
     pub place: Place,
@@ -63,7 +65,7 @@ pub struct Turn {
 }
 
 // The same of the whole bench.
-#[derive(Drop)]
+#[derive(Clone, Copy)]
 pub struct Step {
     pub bench: Bench,
     pub told: Told,
@@ -71,7 +73,7 @@ pub struct Step {
 }
 
 // How a bench ended: bytes written, script lines answered, 0 or the refusal, and the states, at the default those of peripherals that it lacks.
-#[derive(Drop)]
+#[derive(Clone, Copy)]
 pub struct Summary {
     pub written: usize,
     pub lines: u64,

@@ -1,4 +1,6 @@
 // What a Rust program calls of the bench, for the comparison, over any clock set.
+#![tactic(auto)]
+
 ghost use Rattle.std.specs.Prelude.{length};
 ghost use Rattle.bench.specs.Bench.{bench_of};
 ghost use Rattle.bench_calls.specs.Over.{HandedBack};

@@ -1,11 +1,13 @@
 // The I2C bus as UM10204 describes it: two drivers of a line, start and stop on two successive pairs of levels, the order of a byte's bits,
 // acknowledge, and what an address byte asks.
+#![tactic(auto)]
+
 ghost use Rattle.std.specs.Prelude.{◌≡◌};
 ghost use Rattle.bus.specs.Bits.{flag};
 ghost use Rattle.bus.specs.Bus.{same_levels, is_start, is_stop, first_bit, shift_in, is_acknowledge, is_read, is_general_call, wired};
 
 // The levels of the two lines; true is high.
-#[derive(Drop)]
+#[derive(Clone, Copy)]
 pub struct Levels {
     pub scl: bool,
     pub sda: bool,

@@ -1,6 +1,8 @@
 // The port's functions over times, clocks, taps, clock sets and waits, on words, for the comparison with the Rust, each by a
 // number. `compare/words/src/calls.rs` has the numbers, `compare/words/src/layout.rs` says where what lies. A call returns the
 // number of its refusal, 0 for none, and an answer starts with it.
+#![tactic(auto)]
+
 ghost use Rattle.std.proofs.lemmas.List.Edits.{sets};
 ghost use Rattle.std.specs.Prelude.{cond, [], ◌∷◌, ◌≡◌, ◌%◌, ◌≤◌};
 ghost use Rattle.clock_calls.specs.Told.{Told, moment_number, count_number, truth_number, time_at, truth_words, word_alone};

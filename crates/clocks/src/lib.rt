@@ -1,5 +1,7 @@
 // The clock set of the chip: its sources, the prescalers behind them, the counts and edges of their outputs, and waits for edges.
 // The names are those of mcu/clocks.rs. A refusal is its number in document 01.
+#![tactic(auto)]
+
 ghost use Rattle.std.specs.Prelude.{◌≡◌, false};
 ghost use Rattle.clocks.specs.Clocks.{default_frequencies, domain_at, clock_set, new_clocks, has_zero, source_of, routed_ticks, tap_ticks, routed_edge, edge_by, tap_edge, tap_after, fed_by, available_of, routed_high, tap_high};
 ghost use Rattle.clocks.specs.Half.{half_ticks, half_edge};
@@ -18,7 +20,7 @@ use time::{Clock, Count, Moment, Time};
 
 pub const ZERO_DIVIDER: u8 = 2;
 
-#[derive(Drop)]
+#[derive(Clone, Copy)]
 pub struct Frequencies {
     pub main_hz: u64,
     pub watch_hz: u64,
@@ -26,7 +28,7 @@ pub struct Frequencies {
 }
 
 // The domains that a tap can name, and the two prescalers.
-#[derive(Drop)]
+#[derive(Clone, Copy)]
 pub struct Clocks {
     pub system: Domain,
     pub cpu: Domain,
@@ -39,7 +41,7 @@ pub struct Clocks {
 }
 
 // A clock set, and refusal 1 where it holds a zero, 0 otherwise; for a move of the set also 7.
-#[derive(Drop)]
+#[derive(Clone, Copy)]
 pub struct NewClocks {
     pub refusal: u8,
     pub clocks: Clocks,

@@ -5,7 +5,7 @@ ghost use Rattle.clocks.specs.Tap.{tap_of, source_number, same_tap, tap_validate
 
 const ZERO_TAP: u8 = 11;
 
-#[derive(Drop)]
+#[derive(Clone, Copy)]
 pub enum Source {
     System,
     Cpu,
@@ -15,21 +15,21 @@ pub enum Source {
     Subclock,
 }
 
-#[derive(Drop)]
+#[derive(Clone, Copy)]
 pub struct Tap {
     pub source: Source,
     pub divide: u32,
 }
 
 // The exponent of a power of two.
-#[derive(Drop)]
+#[derive(Clone, Copy)]
 pub enum Stage {
     At(u32),
     NoStage,
 }
 
 // Where the edges of a tap come from: a stage of prescaler S or W, or the source itself.
-#[derive(Drop)]
+#[derive(Clone, Copy)]
 pub enum Route {
     ThroughS(u32),
     ThroughW(u32),

@@ -9,7 +9,7 @@ use super::{Clocks, ZERO_DIVIDER};
 use counts::{REVERSED, ZERO_FREQUENCY, checked_add};
 use time::{Count, Moment, Time};
 
-#[derive(Drop)]
+#[derive(Clone, Copy)]
 pub enum WaitState {
     Running(u64),
     Paused(u64),
@@ -17,21 +17,21 @@ pub enum WaitState {
 }
 
 // A number of edges of a tap to wait for: running to the edge of a number, paused with so many left, or over at a time.
-#[derive(Drop)]
+#[derive(Clone, Copy)]
 pub struct ClockWait {
     pub tap: Tap,
     pub state: WaitState,
 }
 
 // A wait that was started, or the number of the refusal.
-#[derive(Drop)]
+#[derive(Clone, Copy)]
 pub enum NewWait {
     Made(ClockWait),
     Refused(u8),
 }
 
 // The time at which a wait ends, none while it is paused or its tap is not available, or the number of a refusal.
-#[derive(Drop)]
+#[derive(Clone, Copy)]
 pub enum Deadline {
     Never,
     At(Time),
@@ -39,7 +39,7 @@ pub enum Deadline {
 }
 
 // The number of the refusal, 0 where there is none, and the wait that is left.
-#[derive(Drop)]
+#[derive(Clone, Copy)]
 pub struct Waited {
     pub refusal: u8,
     pub wait: ClockWait,

@@ -1,5 +1,7 @@
 // Counts of 64 bits: sums and products that are refused where they pass them, and a yes or a no that may be refused. A refusal is its
 // number in document 01.
+#![tactic(auto)]
+
 ghost use Rattle.std.specs.Prelude.{◌≡◌, ◌+◌, ◌-◌, ◌*◌};
 ghost use Rattle.counts.specs.Counts.{fits};
 
@@ -12,7 +14,7 @@ pub const OVERFLOW: u8 = 7;
 pub const REVERSED: u8 = 8;
 
 // A yes or a no, or the number of a refusal.
-#[derive(Drop)]
+#[derive(Clone, Copy)]
 pub enum Truth {
     Is(bool),
     Refused(u8),

@@ -1,5 +1,7 @@
 // A domain: one clock of the chip, running or held, with its counts, its level and its half counts. The names are those of
 // mcu/clocks/domain.rs, and for level and half counts of mcu/clocks.rs. A refusal is its number in document 01.
+#![tactic(auto)]
+
 ghost use Rattle.std.specs.Prelude.{◌≡◌, ◌^◌, ◌<◌};
 ghost use Rattle.domain.specs.Domain.{running_from, new_domain, shown, domain_time, domain_ticks, edge_or_last, high_between, level_high, domain_high, halves, halves_of, domain_half_ticks, odd_edge, domain_half_edge};
 ghost use Rattle.time.specs.Clock.{zero_in};
@@ -7,14 +9,14 @@ ghost use Rattle.time.specs.Clock.{zero_in};
 use counts::{OVERFLOW, Truth, ZERO_FREQUENCY};
 use time::{Clock, Count, Moment, NewClock, Time};
 
-#[derive(Drop)]
+#[derive(Clone, Copy)]
 pub struct Domain {
     pub clock: Clock,
     pub running: bool,
     pub held_at: Time,
 }
 
-#[derive(Drop)]
+#[derive(Clone, Copy)]
 pub enum NewDomain {
     Made(Domain),
     Refused(u8),

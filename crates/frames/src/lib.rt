@@ -1,9 +1,11 @@
 // A byte on its way, and the order of its bits.
+#![tactic(auto)]
+
 pub mod mirror;
 pub mod parts;
 
 // What a frame is at: its bits, the ninth clock, or past it.
-#[derive(Drop)]
+#[derive(Clone, Copy)]
 pub enum Phase {
     Data,
     Ack,
@@ -11,7 +13,7 @@ pub enum Phase {
 }
 
 // A byte on its way.
-#[derive(Drop)]
+#[derive(Clone, Copy)]
 pub struct Frame {
     pub shift: u8,
     pub remaining: u8,
@@ -22,7 +24,7 @@ pub struct Frame {
     pub last: bool,
 }
 
-#[derive(Drop)]
+#[derive(Clone, Copy)]
 pub enum Framing {
     NoFrame,
     InFrame(Frame),

@@ -1,4 +1,6 @@
 // The I2C peripheral (IIC2) of the H8/38602R: its state, its steps and the eleven calls of its host, by value.
+#![tactic(auto)]
+
 pub mod calls;
 pub mod checks;
 pub mod clocking;
@@ -26,7 +28,7 @@ use time::Time;
 use waits::{MaybeHalf, MaybeWait};
 
 // A start or a stop that the master is about.
-#[derive(Drop)]
+#[derive(Clone, Copy)]
 pub enum Condition {
     NoCondition,
     StartRelease,
@@ -39,28 +41,28 @@ pub enum Condition {
 }
 
 // A start (true) or a stop (false) that was asked for.
-#[derive(Drop)]
+#[derive(Clone, Copy)]
 pub enum Command {
     NoCommand,
     Commanded(bool),
 }
 
 // SCL held low until a register is served.
-#[derive(Drop)]
+#[derive(Clone, Copy)]
 pub enum Hold {
     NoHold,
     Transmit,
     Receive,
 }
 
-#[derive(Drop)]
+#[derive(Clone, Copy)]
 pub enum EighthFall {
     NoFall,
     FellAt(Time),
 }
 
 // What the peripheral drives (true releases the line), the levels as given, and those that the filter saw and let through.
-#[derive(Drop)]
+#[derive(Clone, Copy)]
 pub struct Lines {
     pub drive: Levels,
     pub raw: Levels,
@@ -68,7 +70,7 @@ pub struct Lines {
     pub filtered: Levels,
 }
 
-#[derive(Drop)]
+#[derive(Clone, Copy)]
 pub struct Flags {
     pub busy: bool,
     pub reset: bool,
@@ -82,7 +84,7 @@ pub struct Flags {
 }
 
 // The peripheral. The rate set is given when it is made.
-#[derive(Drop)]
+#[derive(Clone, Copy)]
 pub struct Iic {
     pub registers: Registers,
     pub lines: Lines,
@@ -100,55 +102,55 @@ pub struct Iic {
 }
 
 // The number of the refusal of a rate set, 0 for none, and the state that has the set.
-#[derive(Drop)]
+#[derive(Clone, Copy)]
 pub struct Given {
     pub refusal: u8,
     pub state: Iic,
 }
 
 // How a step ended: refused by its number, or not.
-#[derive(Drop)]
+#[derive(Clone, Copy)]
 pub enum Ended {
     Finished,
     Refused(u8),
 }
 
 // When the waits of the filter and of the setup end, which may be on any tap.
-#[derive(Drop)]
+#[derive(Clone, Copy)]
 pub struct Ends {
     pub filter: Deadline,
     pub setup: Deadline,
 }
 
 // How a step ended, and the state at that point.
-#[derive(Drop)]
+#[derive(Clone, Copy)]
 pub struct Stepped {
     pub ended: Ended,
     pub state: Iic,
 }
 
 // A register's byte, or the number of a refusal.
-#[derive(Drop)]
+#[derive(Clone, Copy)]
 pub enum Byte {
     Is(u8),
     Refused(u8),
 }
 
-#[derive(Drop)]
+#[derive(Clone, Copy)]
 pub struct ReadOut {
     pub answer: Byte,
     pub state: Iic,
 }
 
 // Whether a change of levels reaches the peripheral, or the number of a refusal.
-#[derive(Drop)]
+#[derive(Clone, Copy)]
 pub struct Noticed {
     pub answer: Truth,
     pub state: Iic,
 }
 
 // What the peripheral drives, none while it is disabled.
-#[derive(Drop)]
+#[derive(Clone, Copy)]
 pub enum Pins {
     NoPins,
     Driven(Levels),

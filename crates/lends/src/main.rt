@@ -1,6 +1,8 @@
 // Runs of lent writes and reads, with the calls by value beside them on a second peripheral. A line for each write and read
 // tells how the lent write ended, what the lent read answered, and whether both and the two states are equal. At the end of
 // a run come the registers 0 to 7 of the lent one, the levels that it drives, and the same question.
+#![tactic(auto)]
+
 mod same;
 
 use bus::Levels;
@@ -10,7 +12,7 @@ use same::{same_bytes, same_ends, same_states};
 use time::Time;
 
 // Two peripherals that get the same calls: one lent, one by value.
-#[derive(Drop)]
+#[derive(Clone, Copy)]
 struct Hosts {
     lent: Iic,
     valued: Iic,

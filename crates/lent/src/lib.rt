@@ -1,4 +1,6 @@
 // `read` and `write` once more, for hosts that hold one peripheral: it is lent by reference and changed in its place.
+#![tactic(auto)]
+
 ghost use Rattle.std.specs.Prelude.{◌≡◌};
 ghost use Rattle.iic.specs.Calls.{read_of, write_of};
 ghost use Rattle.lent.specs.WriteRead.{write_read_of};
@@ -26,7 +28,7 @@ pub fn write(p: &mut Iic, address: u16, value: u8, time: Time, clocks: Clocks) -
 }
 
 // How a write ended, what the read after it answered, and the state that the two left.
-#[derive(Drop)]
+#[derive(Clone, Copy)]
 pub struct Both {
     pub ended: Ended,
     pub answer: Byte,

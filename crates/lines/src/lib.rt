@@ -1,5 +1,7 @@
 // The lines of a trace: where they end, the call that one means, and which time may follow which. The script of a bench and the lines of a map
 // are read by the same functions.
+#![tactic(auto)]
+
 ghost use Rattle.std.specs.Prelude.{◌≡◌};
 ghost use Rattle.lines.specs.Lines.{may_follow};
 
@@ -9,7 +11,7 @@ pub mod reading;
 use time::Time;
 
 // A call of the peripheral, as a verb with its operands.
-#[derive(Drop)]
+#[derive(Clone, Copy)]
 pub enum Verb {
     Read(u16),
     Write(u16, u8),
@@ -19,21 +21,21 @@ pub enum Verb {
     Deadline,
 }
 
-#[derive(Drop)]
+#[derive(Clone, Copy)]
 pub struct Call {
     pub time: Time,
     pub verb: Verb,
 }
 
 // What a line says.
-#[derive(Drop)]
+#[derive(Clone, Copy)]
 pub enum Parsed {
     Malformed,
     Calls(Call),
 }
 
 // The time of the last line that wasn't refused 4 or 5.
-#[derive(Drop)]
+#[derive(Clone, Copy)]
 pub enum Last {
     First,
     After(Time),

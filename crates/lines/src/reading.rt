@@ -6,26 +6,26 @@ use super::{Call, Parsed, Verb};
 use time::Time;
 
 // A time and the place after its second tab.
-#[derive(Drop)]
+#[derive(Clone, Copy)]
 pub enum MaybeTime {
     NoTime,
     IsTime(Time, usize),
 }
 
 // Seconds and the place after their tab.
-#[derive(Drop)]
+#[derive(Clone, Copy)]
 pub enum Scanned {
     NoSeconds,
     Seconds(u64, usize),
 }
 
-#[derive(Drop)]
+#[derive(Clone, Copy)]
 pub enum MaybeUnits {
     NoUnits,
     Units(u64),
 }
 
-#[derive(Drop)]
+#[derive(Clone, Copy)]
 pub enum MaybeVerb {
     NoVerb,
     IsVerb(Verb),

@@ -1,10 +1,12 @@
 // Prints the unit of each address that is an argument, or `-` for none, by the map on standard input; or says on standard error, in one line, why the map
 // is refused, with the line or the lowest address.
+#![tactic(auto)]
+
 use lines::reading::digit;
 use map::{Checked, Found, Map, Unit};
 
 // What an argument says.
-#[derive(Drop)]
+#[derive(Clone, Copy)]
 enum Asked {
     At(u16),
     Other,

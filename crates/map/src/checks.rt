@@ -6,7 +6,7 @@ ghost use Rattle.map.specs.Spans.{Held, Sized, held_in, in_none_of, in_two_of, l
 use super::{Checked, Found, Map, Range, Unit};
 
 // First and last addresses side by side, where a range holds none past those of the map.
-#[derive(Drop)]
+#[derive(Clone, Copy)]
 struct Spans {
     firsts: [u16; 64],
     lasts: [u16; 64],

@@ -1,4 +1,6 @@
 // An address map that users edit (document 02, (n)).
+#![tactic(auto)]
+
 ghost use Rattle.std.specs.Prelude.{◌≡◌};
 ghost use Rattle.map.specs.Reading.{found_number, load_of, lookup_in, unit_number};
 
@@ -8,14 +10,14 @@ pub mod reading;
 use reading::load;
 
 // The unit of a range: that of a number, or `-` for none.
-#[derive(Drop)]
+#[derive(Clone, Copy)]
 pub enum Unit {
     Nobody,
     Number(u8),
 }
 
 // A line of a map: the addresses from the first to the last, and their unit.
-#[derive(Drop)]
+#[derive(Clone, Copy)]
 pub struct Range {
     pub first: u16,
     pub last: u16,
@@ -23,28 +25,28 @@ pub struct Range {
 }
 
 // A map: as many of the ranges as it counts, in any order.
-#[derive(Drop)]
+#[derive(Clone, Copy)]
 pub struct Map {
     pub ranges: [Range; 64],
     pub count: usize,
 }
 
 // What a check of a map finds: nothing wrong; 4 with the number of the line, from 1; or 19 or 20 with the lowest such address.
-#[derive(Drop)]
+#[derive(Clone, Copy)]
 pub enum Checked {
     Accepted,
     Refused(u8, u16),
 }
 
 // What a lookup finds: the unit of an address, or why the map is refused.
-#[derive(Drop)]
+#[derive(Clone, Copy)]
 pub enum Found {
     At(Unit),
     Refused(u8, u16),
 }
 
 // The map of a text, and what a check of both finds.
-#[derive(Drop)]
+#[derive(Clone, Copy)]
 pub struct Loaded {
     pub checked: Checked,
     pub map: Map,

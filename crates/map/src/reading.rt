@@ -6,14 +6,14 @@ use super::{Checked, Loaded, Map, Range, Unit};
 use lines::ends::{line_end, past};
 use lines::reading::{MaybeUnits, digit};
 
-#[derive(Drop)]
+#[derive(Clone, Copy)]
 pub enum MaybeRange {
     NoRange,
     IsRange(Range),
 }
 
 // The map of the lines up to the first that is none, and the number of that one, from 1; 0 where each is one.
-#[derive(Drop)]
+#[derive(Clone, Copy)]
 pub struct Read {
     pub wrong: u16,
     pub map: Map,

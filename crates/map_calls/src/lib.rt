@@ -1,5 +1,7 @@
 // What a Rust program calls of maps that are handed in, for the comparison. A word has a range's first address in its bits 0 to 15, the last in 16 to 31, and
 // in 32 to 39 its unit, 255 for none.
+#![tactic(auto)]
+
 ghost use Rattle.std.specs.Prelude.{◌≡◌, ◌%◌, ◌<◌};
 ghost use Rattle.map.specs.Map.{lookup_of};
 ghost use Rattle.map.specs.Reading.{found_number};

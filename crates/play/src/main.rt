@@ -1,12 +1,14 @@
 // Plays the trace on standard input and writes its answer lines to standard output as they come, or with the argument `busy` its reports, or with
 // `wave` its signals as a VCD file, in two buffers of 64 KiB, whatever the length of the trace or of a line.
+#![tactic(auto)]
+
 ghost use Rattle.std.specs.Prelude.{◌≡◌, ◌-◌, ◌≤◌, min, length, take, drop};
 
 use answers::Output;
 use player::Player;
 
 // The bytes of the part that were played, the player after them, and whether all that they gave was written.
-#[derive(Drop)]
+#[derive(Clone, Copy)]
 struct Played {
     pub used: usize,
     pub fine: bool,
@@ -14,7 +16,7 @@ struct Played {
 }
 
 // Whether more is to be read, the bytes held of a line that was begun, and the player.
-#[derive(Drop)]
+#[derive(Clone, Copy)]
 struct Turn {
     pub more: bool,
     pub have: usize,

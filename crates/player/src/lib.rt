@@ -1,4 +1,6 @@
 // Plays traces over the peripheral (document 01, "The trace player"): for each line its answer line, its report or the signals after it.
+#![tactic(auto)]
+
 ghost use Rattle.std.specs.Prelude.{◌≡◌, length};
 ghost use Rattle.answers.specs.declared.Output.TheVariants.{Answers, Reports, Waves};
 ghost use Rattle.player.specs.Trace.{fresh_player, part_of, run_of, over, progress_of, summary_of};
@@ -10,7 +12,7 @@ use lines::ends::{line_end, past};
 use window::Window;
 
 // The lines played so far, and what they left.
-#[derive(Drop)]
+#[derive(Clone, Copy)]
 pub struct Player {
     pub lines: u64,
     pub seen: Seen,
@@ -18,7 +20,7 @@ pub struct Player {
 }
 
 // How far a part of a trace was played: its bytes used, the bytes written, 0 or 6, and the player after it.
-#[derive(Drop)]
+#[derive(Clone, Copy)]
 pub struct Progress {
     pub used: usize,
     pub written: usize,
@@ -27,7 +29,7 @@ pub struct Progress {
 }
 
 // What a whole trace gives: bytes written, lines played, 0 or 6.
-#[derive(Drop)]
+#[derive(Clone, Copy)]
 pub struct Summary {
     pub written: usize,
     pub lines: u64,

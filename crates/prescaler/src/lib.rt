@@ -1,5 +1,7 @@
 // The ripple dividers: prescaler S of 13 stages behind the system clock, prescaler W of 8 behind the watch clock. Stage s divides
 // by 2^s. The Rust has them as Prescaler<13> and Prescaler<8>.
+#![tactic(auto)]
+
 ghost use Rattle.std.specs.Prelude.{◌≡◌, ◌+◌, ◌-◌, ◌*◌, ◌%◌, ◌^◌, ◌≤◌, ◌<◌, ltb};
 ghost use Rattle.counts.specs.Counts.{fits};
 ghost use Rattle.prescaler.specs.Prescaler.{fresh, fresh_s, fresh_w, outside, elapsed, crossed, stage_crossings, stage_ticks, stage_high, parent_edge, stage_edge};
@@ -10,7 +12,7 @@ use time::Count;
 const BAD_STAGE: u8 = 3;
 
 // What the two prescalers share: the parent's count when the phase was settled, the phase then, and whether it counts.
-#[derive(Drop)]
+#[derive(Clone, Copy)]
 pub struct Divider {
     pub anchor: u64,
     pub phase: u16,
@@ -18,13 +20,13 @@ pub struct Divider {
 }
 
 // A divider, and how many edges each of its stages had given at the anchor.
-#[derive(Drop)]
+#[derive(Clone, Copy)]
 pub struct PrescalerS {
     pub divider: Divider,
     pub emitted: [u64; 13],
 }
 
-#[derive(Drop)]
+#[derive(Clone, Copy)]
 pub struct PrescalerW {
     pub divider: Divider,
     pub emitted: [u64; 8],

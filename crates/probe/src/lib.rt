@@ -1,5 +1,7 @@
 // What a Rust program calls of the port, for the comparison and the benchmark. What it calls returns the number of its refusal,
 // 0 for none.
+#![tactic(auto)]
+
 ghost use Rattle.std.specs.Prelude.{◌≡◌, get_or};
 ghost use Rattle.calls.specs.States.{Begins, rates_at, register_words};
 ghost use Rattle.clock_calls.specs.Sets.{clocks_at};

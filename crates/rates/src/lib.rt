@@ -1,4 +1,6 @@
 // The lengths of the waits: a rate set, and what ICCR1 chooses of it.
+#![tactic(auto)]
+
 ghost use Rattle.std.specs.Prelude.{◌≡◌, eqb, ◌&&◌, true};
 ghost use Rattle.rates.specs.Rates.{default_rates, each, is_default, length_in, lengths_hold, monitor_below, monitor_halves, period_of, rate, rates_hold, setup_cycles, word_of};
 
@@ -7,7 +9,7 @@ const CKS3: u8 = 8;
 
 // Half counts of a half clock by CKS2 to CKS0, half counts until a rising clock is looked at by CKS3 and CKS2, and clocks before a
 // slave releases SCL by CKS3.
-#[derive(Drop)]
+#[derive(Clone, Copy)]
 pub struct Rates {
     pub half_clocks: [u16; 8],
     pub monitors: [u16; 4],

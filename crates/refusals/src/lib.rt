@@ -1,4 +1,6 @@
 // The refusals of the peripheral's state, in the order in which they are looked for. 0 is none.
+#![tactic(auto)]
+
 ghost use Rattle.std.specs.Prelude.{◌≡◌};
 ghost use Rattle.refusals.specs.Refusals.{before_call, first_of, of_state};
 

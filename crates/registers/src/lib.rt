@@ -1,5 +1,7 @@
 // The registers of the peripheral as bytes (REJ09B0152, section 16.3): which of them an address chooses, what each shows, and what
 // reads and writes set in them alone.
+#![tactic(auto)]
+
 pub mod bits;
 
 ghost use Rattle.std.specs.Prelude.{◌≡◌};
@@ -9,7 +11,7 @@ use bits::{ACKBR, BBSY, BCWP, IICRST, MLS, RDRF, SCLO, SCP, SDAO, SDAOP, TDRE, T
 use bus::Levels;
 use frames::mirror::ordered;
 
-#[derive(Drop)]
+#[derive(Clone, Copy)]
 pub struct Registers {
     pub control: u8,
     pub mode: u8,
@@ -23,7 +25,7 @@ pub struct Registers {
 }
 
 // The registers, by the manual's names.
-#[derive(Drop)]
+#[derive(Clone, Copy)]
 pub enum Register {
     ICCR1,
     ICCR2,

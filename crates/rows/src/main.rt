@@ -1,4 +1,6 @@
 // The unstarred row of document 01 and its five misreadings, run against what they should give: a line each.
+#![tactic(auto)]
+
 use bus::Levels;
 use clocks::wait::Deadline;
 use clocks::{Clocks, Frequencies};

@@ -1,4 +1,6 @@
 // The script of a bench (document 02, (g)): the call that a line means, and whether a bench plays it.
+#![tactic(auto)]
+
 ghost use Rattle.std.specs.Prelude.{◌≡◌};
 ghost use Rattle.script.specs.Script.{is_scripted, called_of, line_of, judged_as, judged_by};
 
@@ -7,7 +9,7 @@ use lines::{Call, Last, Verb};
 use time::Time;
 
 // What the script has next: no line, a malformed one, or a call of the unit of that number.
-#[derive(Drop)]
+#[derive(Clone, Copy)]
 pub enum Next {
     NoLine,
     Malformed,
@@ -15,7 +17,7 @@ pub enum Next {
 }
 
 // What the next script line is to the bench: none; refused 4; refused 5, of that unit; or a call of that unit.
-#[derive(Drop)]
+#[derive(Clone, Copy)]
 pub enum Judged {
     NoLine,
     Unread,

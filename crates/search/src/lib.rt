@@ -1,4 +1,6 @@
 // The shortest run of a trace's lines that still draws a refusal (document 02, (h) and (i)).
+#![tactic(auto)]
+
 ghost use Rattle.std.specs.Prelude.{◌≡◌, true, ◌+◌, ◌*◌, ◌≤◌, length, drop};
 ghost use Rattle.lines.specs.Lines.{lines_in};
 ghost use Rattle.search.specs.Shortest.{Answers, shortest_of, one_number};
@@ -8,35 +10,35 @@ use lines::ends::{line_end, past};
 use player::Player;
 
 // The first line of a run, from 1, and its length; or a refusal.
-#[derive(Drop)]
+#[derive(Clone, Copy)]
 pub enum Found {
     At(usize, usize),
     Refused(u8),
 }
 
 // What a search found, and how many lines were played for it.
-#[derive(Drop)]
+#[derive(Clone, Copy)]
 pub struct Searched {
     pub found: Found,
     pub plays: usize,
 }
 
 // How many lines were played, and how many of them up to one that draws the number; 0 where none does.
-#[derive(Drop)]
+#[derive(Clone, Copy)]
 struct Play {
     lines: usize,
     drawn: usize,
 }
 
 // The best run so far: its first line, from 1, or 0 for none; and the most lines that a better run has.
-#[derive(Drop)]
+#[derive(Clone, Copy)]
 struct Best {
     first: usize,
     most: usize,
 }
 
 // The best run of all, and how many lines were played.
-#[derive(Drop)]
+#[derive(Clone, Copy)]
 struct Tried {
     best: Best,
     plays: usize,

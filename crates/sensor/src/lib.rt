@@ -1,5 +1,7 @@
 // The accelerometer's end of the wires (devices/bma150/i2c.rs): what its parser makes of each pair of levels, where it pulls SDA,
 // and what it asks of the rest of the sensor. What the rest answers goes in as values.
+#![tactic(auto)]
+
 mod edges;
 mod falling;
 mod parts;
@@ -14,7 +16,7 @@ use bus::Levels;
 use edges::{falls, plain, rises};
 
 // Which byte is on its way in.
-#[derive(Drop)]
+#[derive(Clone, Copy)]
 pub enum Receive {
     Address,
     Control,
@@ -22,7 +24,7 @@ pub enum Receive {
 }
 
 // What comes after an acknowledge.
-#[derive(Drop)]
+#[derive(Clone, Copy)]
 pub enum Following {
     Control,
     Data,
@@ -31,13 +33,13 @@ pub enum Following {
 }
 
 // Whether the master acknowledged, once the ninth clock of a byte that was sent has risen.
-#[derive(Drop)]
+#[derive(Clone, Copy)]
 pub enum Heard {
     NotYet,
     Was(bool),
 }
 
-#[derive(Drop)]
+#[derive(Clone, Copy)]
 pub enum Phase {
     Idle,
     Receive(Receive),
@@ -48,7 +50,7 @@ pub enum Phase {
 }
 
 // The parser. It pulls SDA where `low`, and SCL never.
-#[derive(Drop)]
+#[derive(Clone, Copy)]
 pub struct State {
     pub phase: Phase,
     pub pointer: u8,
@@ -58,14 +60,14 @@ pub struct State {
 }
 
 // The byte to send, `tx`, where one was prepared.
-#[derive(Drop)]
+#[derive(Clone, Copy)]
 pub enum Tx {
     NoByte,
     Byte(u8),
 }
 
 // What `write_register` answers: a refusal and its number, or that it is done and whether a quiet time runs after it.
-#[derive(Drop)]
+#[derive(Clone, Copy)]
 pub enum Written {
     Refused(u8),
     Done(bool),
@@ -73,7 +75,7 @@ pub enum Written {
 
 // What the rest of the sensor says at an edge: whether it is blocked (selected for SPI, unpowered or not ready), whether a quiet
 // time runs, what a write would answer and which byte would be prepared.
-#[derive(Drop)]
+#[derive(Clone, Copy)]
 pub struct Outside {
     pub blocked: bool,
     pub quiet: bool,
@@ -83,7 +85,7 @@ pub struct Outside {
 
 // What an edge asks of the rest of the sensor: to write a byte at a pointer, to prepare the byte there, or to take note that it is
 // being read.
-#[derive(Drop)]
+#[derive(Clone, Copy)]
 pub enum Effect {
     NoEffect,
     Write(u8, u8),
@@ -92,14 +94,14 @@ pub enum Effect {
 }
 
 // The write's refusal, or whether a deadline may have changed.
-#[derive(Drop)]
+#[derive(Clone, Copy)]
 pub enum Answer {
     Refused(u8),
     Changed(bool),
 }
 
 // What an edge leaves. Where `cleared`, the rest of the sensor drops the pair and the shadow of a read (`tx_pair`, `tx_shadow`).
-#[derive(Drop)]
+#[derive(Clone, Copy)]
 pub struct Edge {
     pub answer: Answer,
     pub effect: Effect,

@@ -1,5 +1,7 @@
 // The sensor's calls on words, for the comparison with the Rust. A word holds eight bytes; `compare/words/src/sensor.rs` says where
 // what lies.
+#![tactic(auto)]
+
 mod given;
 mod left;
 mod words;

@@ -1,5 +1,7 @@
 // Plays the script on standard input on so many peripherals as the argument says, over the trace player's clock set, and writes the answer lines to
 // standard output; or says on standard error, in one line, why it ended before the script did, or why it can't.
+#![tactic(auto)]
+
 ghost use Rattle.std.specs.Prelude.{◌≡◌, length};
 
 use answers::trace_clocks;

@@ -1,25 +1,27 @@
 // Prints the first line and the length of the shortest run of lines, in the trace on standard input, whose last line draws the refusal number that
 // is the argument, of at most 256 lines, or 32 with `--leaflet`; or says on standard error, in one line, why there is none.
+#![tactic(auto)]
+
 ghost use Rattle.std.specs.Prelude.{◌≤◌, length};
 
 use search::Found;
 
 // What an argument says.
-#[derive(Drop)]
+#[derive(Clone, Copy)]
 enum Asked {
     Number(u8),
     Other,
 }
 
 // The bytes held of a trace, and how many of them are its last line's.
-#[derive(Drop)]
+#[derive(Clone, Copy)]
 struct Held {
     used: usize,
     line: usize,
 }
 
 // The bytes held, and whether all could be read.
-#[derive(Drop)]
+#[derive(Clone, Copy)]
 struct Trace {
     used: usize,
     fine: bool,

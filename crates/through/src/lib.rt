@@ -1,4 +1,6 @@
 // Calls of a bench's peripherals through a map (document 02, (n)).
+#![tactic(auto)]
+
 ghost use Rattle.std.specs.Prelude.{◌≡◌, ◌<◌};
 ghost use Rattle.through.specs.Through.{among, reached_of, read_through, read_unit, target_of, write_through, write_unit};
 
@@ -8,7 +10,7 @@ use map::{Found, Map, Unit};
 use time::Time;
 
 // Whom a call through a map reaches: nobody, the peripheral of that number, or a refusal stands before it, with its line or address.
-#[derive(Drop)]
+#[derive(Clone, Copy)]
 pub enum Target {
     Missing,
     Reached(u8),
@@ -16,7 +18,7 @@ pub enum Target {
 }
 
 // What a read through a map gives: the byte or a refusal, the line or the address that belongs to a refusal of the map, and the states.
-#[derive(Drop)]
+#[derive(Clone, Copy)]
 pub struct ReadThrough {
     pub answer: Byte,
     pub at: u16,
@@ -24,7 +26,7 @@ pub struct ReadThrough {
 }
 
 // The same of a write.
-#[derive(Drop)]
+#[derive(Clone, Copy)]
 pub struct WriteThrough {
     pub ended: Ended,
     pub at: u16,

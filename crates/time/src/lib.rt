@@ -1,4 +1,6 @@
 // Time in seconds and units of 2^-64 s, and clocks of a rational frequency.
+#![tactic(auto)]
+
 ghost use Rattle.std.specs.Prelude.{◌≡◌, ◌+◌, ◌-◌, ◌*◌, ◌/◌, ◌%◌, ◌^◌, ◌<◌, ◌≤◌, min};
 ghost use Rattle.time.specs.Time.{time_of, time_from, moment_of, earlier, same_time, sum_of, since_of, next_time, midway};
 ghost use Rattle.time.specs.Clock.{edges_before, zero_in, new_clock, after_of, edges_before_of, move_of};
@@ -7,21 +9,21 @@ ghost use Rattle.words.specs.Words.{value_of};
 use words::{Wide, divide, product, product_by, scaled_quotient, sum, upper_of_less};
 
 // Whole seconds, and a fraction of a second in units of 2^-64 s.
-#[derive(Drop)]
+#[derive(Clone, Copy)]
 pub struct Time {
     pub seconds: u64,
     pub fraction: u64,
 }
 
 // A time, or the number of its refusal.
-#[derive(Drop)]
+#[derive(Clone, Copy)]
 pub enum Moment {
     At(Time),
     Refused(u8),
 }
 
 // A count of edges, or the number of its refusal.
-#[derive(Drop)]
+#[derive(Clone, Copy)]
 pub enum Count {
     Of(u64),
     Refused(u8),
@@ -29,7 +31,7 @@ pub enum Count {
 
 // A clock of numerator / denominator Hz. Its start is the edge of the ordinal; the fraction, in parts of 1 / numerator of a unit of
 // time, is what that edge's time left over when it was rounded down.
-#[derive(Drop)]
+#[derive(Clone, Copy)]
 pub struct Clock {
     pub start: Time,
     pub numerator: u64,
@@ -39,7 +41,7 @@ pub struct Clock {
 }
 
 // A clock, or the number of its refusal.
-#[derive(Drop)]
+#[derive(Clone, Copy)]
 pub enum NewClock {
     Made(Clock),
     Refused(u8),

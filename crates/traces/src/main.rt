@@ -5,6 +5,8 @@
 // unmodified sources, and adds the line of the three numbers. Which overflows are 13 the Rust doesn't tell: a comment beside the trace does. The
 // traces of random calls are `make-trace 1 600`, `2 600` and `3 600` of compare/, the hostile one is such a trace with bytes changed, and those of
 // whole transfers are the ones of examples/.
+#![tactic(auto)]
+
 use answers::Output;
 
 fn text(bytes: &[u8]) {

@@ -2,7 +2,7 @@
 use bus::Levels;
 use sensor::{Effect, Outside, State, Tx, Written};
 
-#[derive(Drop)]
+#[derive(Clone, Copy)]
 pub(crate) struct Board {
     pub state: State,
     pub tx: Tx,

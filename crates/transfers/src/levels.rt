@@ -4,7 +4,7 @@ use super::show;
 use bus::Levels;
 
 // What the master drives, and the wires as they have settled.
-#[derive(Drop)]
+#[derive(Clone, Copy)]
 pub(crate) struct Wires {
     pub board: Board,
     pub scl: bool,
@@ -13,7 +13,7 @@ pub(crate) struct Wires {
 }
 
 // The wires, and a byte that was read over them.
-#[derive(Drop)]
+#[derive(Clone, Copy)]
 struct Heard {
     wires: Wires,
     byte: u8,

@@ -1,6 +1,8 @@
 // The sensor at the end of wires. First a master by its levels writes a register, then sets the pointer and reads two: a line for
 // each edge with the levels that come to the sensor, those after its pull, and what it asks of its registers. Then the
 // peripheral is the master over the same wires, and the bytes that come out are compared with those that went in.
+#![tactic(auto)]
+
 mod board;
 mod levels;
 mod master;

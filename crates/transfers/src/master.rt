@@ -15,7 +15,7 @@ const RDRF: u8 = 0x20;
 
 const STOP: u8 = 0x08;
 
-#[derive(Drop)]
+#[derive(Clone, Copy)]
 pub(crate) struct Bench {
     pub iic: Iic,
     pub board: Board,
@@ -24,7 +24,7 @@ pub(crate) struct Bench {
 }
 
 // The bench, and a byte that was read of ICDRR.
-#[derive(Drop)]
+#[derive(Clone, Copy)]
 struct Got {
     bench: Bench,
     byte: u8,
@@ -187,7 +187,7 @@ impl Bench {
 }
 
 // Two bytes from a pointer on: ICDRR is read once to begin, then with the acknowledge of the last byte set to none.
-#[derive(Drop)]
+#[derive(Clone, Copy)]
 pub(crate) struct Two {
     pub bench: Bench,
     pub first: u8,

@@ -1,4 +1,6 @@
 // One unit of a bench (document 02, (g)): the moment that it names next, and what it drives.
+#![tactic(auto)]
+
 ghost use Rattle.std.specs.Prelude.{◌≡◌};
 ghost use Rattle.clocks.specs.declared.wait.Deadline.TheVariants.{At};
 ghost use Rattle.units.specs.Units.{driven, is_at, is_named, is_present, names_by, names_of, released};

@@ -1,10 +1,12 @@
 // How busy the bus is (document 02, requests (d) and (l)): in how many of the latest 64 lines of a trace a flag rose.
+#![tactic(auto)]
+
 ghost use Rattle.std.specs.Prelude.{◌≡◌, List};
 ghost use Rattle.window.specs.Lines.{Line, rise_of, rises, latest};
 ghost use Rattle.window.specs.Window.{empty_window, take_of, report_of, window_of};
 
 // The latest 64 of the lines taken so far.
-#[derive(Drop)]
+#[derive(Clone, Copy)]
 pub struct Window {
     // A bit for each line, 1 where a flag rose: the last line's is the lowest, and where fewer were taken the rest are 0.
     pub bits: u64,

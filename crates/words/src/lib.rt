@@ -1,16 +1,18 @@
 // Numbers of two and three 64-bit words: sums, products and quotients.
+#![tactic(auto)]
+
 ghost use Rattle.std.specs.Prelude.{◌≡◌, ◌+◌, ◌-◌, ◌*◌, ◌/◌, ◌%◌, ◌^◌, ◌<◌, ◌≤◌, count_ones};
 ghost use Rattle.words.specs.Words.{value_of, triple_of, divided_of, Divides};
 
 // A number of two words: high * 2^64 + low.
-#[derive(Drop)]
+#[derive(Clone, Copy)]
 pub struct Wide {
     pub high: u64,
     pub low: u64,
 }
 
 // A number of three words: (high * 2^64 + middle) * 2^64 + low.
-#[derive(Drop)]
+#[derive(Clone, Copy)]
 pub struct Triple {
     pub high: u64,
     pub middle: u64,
@@ -18,14 +20,14 @@ pub struct Triple {
 }
 
 // What a division gives.
-#[derive(Drop)]
+#[derive(Clone, Copy)]
 pub struct Divided {
     pub quotient: Wide,
     pub remainder: u64,
 }
 
 // What a division gives whose quotient is one word.
-#[derive(Drop)]
+#[derive(Clone, Copy)]
 struct Part {
     quotient: u64,
     remainder: u64,
