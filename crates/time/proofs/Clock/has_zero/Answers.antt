@@ -4,8 +4,7 @@ use Rattle.std.proofs.Common.{◌≡◌, ℕ, Bool, true, false, not, ◌||◌, 
 use borrow.Author.Tests.{lt-leb}
 use Rattle.time.specs.Clock.{zero_in}
 use Rattle.time.specs.Laws.{lt_or_le}
-use Rattle.time.proofs.Clock.has_zero.Statement.{statement}
-use Rattle.time.proofs.Clock.has_zero.Tie as tie
+use Rattle.time.proofs.Clock.has_zero.Goals as goal
 
 unordered : (z d : Bool) → (d || true) ≡ (z || d || true)
 unordered true true = refl
@@ -20,11 +19,8 @@ two_tests h d f =
     (λ le. rw (le-leb h f le, le-ltb f h le) (unordered (eqb h 0) (eqb d 0)))
     (lt_or_le f h)
 
-returns : tie.Need-returns
+pub returns : goal.returns
 unfolding zero_in
 returns c =
-    let a = c.before.before.args in
+    let a = c.args in
     two_tests a.self.numerator a.self.denominator a.self.fraction
-
-pub has_zero_spec : {M : Type 1} → statement M
-has_zero_spec = tie.close (tie.spec returns)

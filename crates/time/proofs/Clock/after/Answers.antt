@@ -1,0 +1,28 @@
+-- `time::Clock::after` meets its contract: `has_zero` and the ordinal tell which case it is, and `edge_of` works the time out.
+-- Assumes nothing.
+use Rattle.std.proofs.Common.{ℕ, ◌+◌, ◌*◌, ◌/◌, ◌^◌, sym, ap, ◌∙◌}
+use Rattle.std.proofs.lemmas.Bool.{lt-ltb}
+use Rattle.time.specs.Time.{time_of, moment_of}
+use Rattle.time.specs.Clock.{edge_of, after_of}
+use Rattle.time.specs.Laws.{no_zero, after_is}
+use Rattle.time.proofs.Clock.after.Goals as goal
+
+pub returns-then-zero : goal.returns-then-zero
+unfolding after_of
+returns-then-zero c = simp (← c.has_zero-zero.ensures, c.if-zero.true)
+
+pub returns-then-below : goal.returns-then-below
+unfolding after_of
+returns-then-below c = simp (← c.has_zero-zero.ensures, c.if-zero.false, lt-ltb c.args.edges c.args.self.ordinal c.if-below.true)
+
+pub edge_of-requires : goal.edge_of-requires
+edge_of-requires c =
+    (no_zero c.args.self (sym c.has_zero-zero.ensures ∙ c.if-zero.false)).0
+
+pub returns : goal.returns
+unfolding edge_of
+returns c =
+    let a = c.args in
+    c.edge_of.ensures
+    ∙ ap (λ (n : ℕ). moment_of (time_of a.self.start + (n * 2 ^ 64 + a.self.fraction) / a.self.numerator)) c.periods_of-periods.ensures
+    ∙ sym (after_is a.self a.edges (sym c.has_zero-zero.ensures ∙ c.if-zero.false) c.if-below.false)
