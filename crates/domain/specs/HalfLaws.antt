@@ -10,8 +10,8 @@ use native.Mathlib.Omega.{arith}
 use borrow.Author.Tests.{eqb-true, eqb-false, ltb-true, ne_eqb}
 use Rattle.std.proofs.Math.Dec.{eqb}
 use Rattle.time.specs.Clock.{after_of, edge_of, edges_before, zero_in}
-use Rattle.time.specs.Laws.{after_is, counted, edge_mono, edges_before_ge, edges_before_of_lem, lt_or_le, midway_time, moment_at, moment_time, no_zero, uncounted}
-use Rattle.time.specs.NextLaws.{after_at_lem, edge_steps, moment_fits, next_le, next_near, refused_not_at, same_at, same_of, slow, uncounted_not_of}
+use Rattle.time.proofs.Laws.{after_is, counted, edge_mono, edges_before_ge, edges_before_of_lem, lt_or_le, midway_time, moment_at, moment_time, no_zero, uncounted}
+use Rattle.time.proofs.NextLaws.{after_at_lem, edge_steps, moment_fits, next_le, next_near, refused_not_at, same_at, same_of, slow, uncounted_not_of}
 use Rattle.time.specs.Time.{earlier, midway, next_time, time_from, time_of}
 use Rattle.time.specs.Truths.{and_right}
 use Rattle.time.specs.declared.Clock.{Clock}

@@ -6,7 +6,7 @@ use Rattle.std.proofs.Common.{ap, lit<}
 use Rattle.bus.specs.Bus.{levels}
 use Rattle.time.specs.declared.Time.{Time}
 use Rattle.time.specs.Clock.{edges_before}
-use Rattle.time.specs.Laws.{edges_before_is}
+use Rattle.time.proofs.Laws.{edges_before_is}
 use Rattle.time.specs.Time.{time_of}
 use Rattle.time.specs.Time as Time
 use Rattle.time.specs.Clock as Clock

@@ -28,7 +28,7 @@ use Rattle.rates.specs.Rates as Rates
 use Rattle.rates.specs.Rates.{default_rates}
 use Rattle.time.specs.Time.{time_of}
 use Rattle.time.specs.Clock.{edges_before}
-use Rattle.time.specs.Laws.{none_before}
+use Rattle.time.proofs.Laws.{none_before}
 use Rattle.clocks.specs.declared.Clocks.{Clocks}
 use Rattle.clocks.specs.declared.wait.NewWait.{NewWait}
 use Rattle.clocks.specs.declared.wait.NewWait.TheVariants as wait

@@ -20,7 +20,7 @@ use Rattle.iic.specs.Writing.{control_set, give_data_of, redirected, take_contro
 use Rattle.iic.specs.Setters.{set_address}
 use Rattle.iic.specs.Shift.{addressed_of, begin_frame_of, last_bit_of, load_transmit_of, matched_of, rising_data_of, rising_of, select_of, when_lost_of}
 use Rattle.time.specs.Clock.{after_of, edge_of, edges_before_of, zero_in}
-use Rattle.time.specs.Laws.{edges_before_is}
+use Rattle.time.proofs.Laws.{edges_before_is}
 use Rattle.time.specs.Time.{moment_of, next_time, time_of}
 use Rattle.time.specs.declared.Clock.{Clock}
 use Rattle.time.specs.declared.Count.TheVariants as count

@@ -9,9 +9,9 @@ use Rattle.time.specs.declared.Count.TheVariants as count
 use Rattle.time.specs.declared.Moment.TheVariants as moment
 use Rattle.time.specs.declared.Clock.{Clock}
 use Rattle.time.specs.Clock.{after_of, edge_of, edges_before, edges_before_of, moved_by, start_after, zero_in}
-use Rattle.time.specs.Laws.{after_is, edge_start, edges_before_ge, lt_or_le, moment_at, next_last, next_later, no_zero, time_of_from}
-use Rattle.time.specs.MoveLaws.{count_moved, edge_moved, moved_sound}
-use Rattle.time.specs.NextLaws.{edge_steps}
+use Rattle.time.proofs.Laws.{after_is, edge_start, edges_before_ge, lt_or_le, moment_at, next_last, next_later, no_zero, time_of_from}
+use Rattle.time.proofs.MoveLaws.{count_moved, edge_moved, moved_sound}
+use Rattle.time.proofs.NextLaws.{edge_steps}
 use Rattle.time.specs.Time.{moment_of, next_time, time_from, time_of}
 use Rattle.moves.specs.Statement.{From}
 use Rattle.moves.specs.Alike.{Early, EdgesAlike}

@@ -12,7 +12,7 @@ use Rattle.time.specs.declared.Moment.{Moment}
 use Rattle.time.specs.declared.Moment.TheVariants.{At, Refused as Unset}
 use Rattle.time.specs.declared.Time.{Time}
 use Rattle.time.specs.Clock.{after_of, zero_in}
-use Rattle.time.specs.Laws.{lt_or_le, midway_time}
+use Rattle.time.proofs.Laws.{lt_or_le, midway_time}
 use Rattle.time.specs.Time.{time_of}
 use Rattle.clocks.specs.Clocks.{available_of, fed_by, has_zero, routed_edge, source_of, tap_edge}
 use Rattle.counts.specs.Counts.{with_count, with_time, with_truth}

@@ -4,9 +4,9 @@ use Rattle.std.proofs.Common.{sym, ◌∙◌, ap, subst, arith, ltb-true}
 use Rattle.time.specs.declared.Clock.{Clock}
 use Rattle.time.specs.declared.NewClock.TheVariants.{Made as made, Refused as refused}
 use Rattle.time.specs.Clock.{in_width, move_of, moved_by, start_after, zero_in}
-use Rattle.time.specs.Laws.{no_zero, time_of_from}
-use Rattle.time.specs.MoveLaws.{moved_sound}
-use Rattle.time.specs.NextLaws.{slow}
+use Rattle.time.proofs.Laws.{no_zero, time_of_from}
+use Rattle.time.proofs.MoveLaws.{moved_sound}
+use Rattle.time.proofs.NextLaws.{slow}
 use Rattle.time.specs.Time.{time_of}
 use Rattle.time.specs.Truths.{and_right}
 use Rattle.clocks.specs.declared.Clocks.{Clocks}

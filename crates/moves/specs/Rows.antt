@@ -6,7 +6,7 @@ use Rattle.time.specs.declared.Time.{Time}
 use Rattle.time.specs.declared.Clock.{Clock}
 use Rattle.time.specs.Clock as Clock
 use Rattle.time.specs.Clock.{edges_before}
-use Rattle.time.specs.Laws.{edges_before_is, none_before}
+use Rattle.time.proofs.Laws.{edges_before_is, none_before}
 use Rattle.time.specs.Time as Time
 use Rattle.time.specs.Time.{time_of}
 use Rattle.clocks.specs.declared.Clocks.{Clocks}

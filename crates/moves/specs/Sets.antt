@@ -14,7 +14,7 @@ use Rattle.time.specs.declared.Moment.{Moment}
 use Rattle.time.specs.declared.Moment.TheVariants.{At, Refused as Unset}
 use Rattle.time.specs.declared.Time.{Time}
 use Rattle.time.specs.Clock.{after_of, edges_before_of, zero_in}
-use Rattle.time.specs.NextLaws.{same_of, uncounted_not_of}
+use Rattle.time.proofs.NextLaws.{same_of, uncounted_not_of}
 use Rattle.time.specs.Time.{next_time}
 use Rattle.time.specs.Truths.{and_left, and_right}
 use Rattle.clocks.specs.Clocks.{available_of, fed_by, has_zero, routed_edge, routed_ticks, source_of, tap_edge, tap_ticks}

@@ -5,7 +5,7 @@ use native.Mathlib.Nat.{add-mul-div_right, add-mul-mod_self_right, div-div-eq-di
 use lib.Arith.{digits_lt}
 use Rattle.time.specs.Time.{time_of}
 use Rattle.time.specs.Clock.{edges_before}
-use Rattle.time.specs.Laws.{past_time, edges_before_is}
+use Rattle.time.proofs.Laws.{past_time, edges_before_is}
 use Rattle.time.specs.declared.Clock.{Clock}
 use Rattle.time.proofs.Sums.{low_only}
 

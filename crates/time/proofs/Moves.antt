@@ -3,7 +3,7 @@
 use Rattle.std.proofs.Common.{◌≡◌, ℕ, ◌+◌, ◌%◌, ◌^◌, ◌<◌, ◌≤◌, Bool, true, false, cond, ◌&&◌, ltb, sym, refl, ap, ◌∙◌, subst, ap₂, ⊎_elim, arith, le-ltb, lt-ltb}
 use Rattle.time.specs.Time.{time_from, moment_of}
 use Rattle.time.specs.Clock.{zero_in, span, start_after, moved_by, in_width, move_of}
-use Rattle.time.specs.Laws.{lt_or_le, moment_from, moment_past, moment_refused}
+use Rattle.time.proofs.Laws.{lt_or_le, moment_from, moment_past, moment_refused}
 use Rattle.time.specs.declared.Time.{Time}
 use Rattle.time.specs.declared.Moment.TheVariants.{At, Refused}
 use Rattle.time.specs.declared.NewClock.TheVariants as new

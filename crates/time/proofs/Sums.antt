@@ -1,7 +1,7 @@
 -- Laws on a sum of two times, from the sums of their words, which the proofs of `checked_add` and `next` cite.
 -- Assumes nothing.
 use Rattle.std.proofs.Common.{◌≡◌, ℕ, ◌+◌, ◌*◌, ◌^◌, ◌<◌, ◌≤◌, sym, ap, ◌∙◌, zero-add, arith}
-use Rattle.time.specs.Laws.{past_time}
+use Rattle.time.proofs.Laws.{past_time}
 
 -- a high word of zero
 pub low_only : (h l n : ℕ) → h * 2 ^ 64 + l ≡ n → h ≡ 0 → l ≡ n

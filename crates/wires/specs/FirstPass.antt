@@ -50,7 +50,7 @@ use Rattle.waits.specs.declared.MaybeWait.TheVariants.{NoWait, Waiting}
 use Rattle.waits.specs.declared.NewHalf.TheVariants as half
 use Rattle.waits.specs.AheadLaws.{paused_is, same_half}
 use Rattle.time.specs.Truths.{by_cases, either, if_false, if_true}
-use Rattle.time.specs.NextLaws.{same_of}
+use Rattle.time.proofs.NextLaws.{same_of}
 use Rattle.wires.specs.Held.{halve, prepare}
 use Rattle.wires.specs.Kicks.{schedule_rests, then_kick}
 use Rattle.wires.specs.Passes.{report_sound}

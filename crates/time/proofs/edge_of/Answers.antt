@@ -7,7 +7,7 @@ use Rattle.time.specs.Time.{moment_of, sum_of}
 use Rattle.words.specs.Words.{value_of}
 use Rattle.words.specs.declared.Divided.{Divided}
 use Rattle.words.specs.Laws.{quotient_of, remainder_of}
-use Rattle.time.specs.Laws.{moment_past}
+use Rattle.time.proofs.Laws.{moment_past}
 use Rattle.time.specs.Truths.{and_left, and_right}
 use Rattle.time.proofs.Edges.{edge_past, edge_words}
 use Rattle.time.proofs.edge_of.Goals as goal

@@ -5,7 +5,7 @@
 use Rattle.std.proofs.Common.{◌≡◌, ℕ, ◌+◌, ◌*◌, ◌/◌, ◌%◌, ◌^◌, ◌<◌, ◌≤◌, false, sym, ap, ◌∙◌, arith}
 use Rattle.time.specs.Clock.{span, start_after, zero_in}
 use Rattle.time.specs.Time.{moment_of, time_of}
-use Rattle.time.specs.Laws.{no_zero}
+use Rattle.time.proofs.Laws.{no_zero}
 use Rattle.time.proofs.Moves.{move_zero, move_long, move_past, move_made}
 use Rattle.time.proofs.Sums.{low_only}
 use Rattle.time.proofs.Clock.advance.Goals as goal

@@ -4,7 +4,7 @@ use Rattle.std.proofs.Common.{ℕ, ◌+◌, ◌*◌, ◌/◌, ◌^◌, sym, ap, 
 use Rattle.std.proofs.lemmas.Bool.{lt-ltb}
 use Rattle.time.specs.Time.{time_of, moment_of}
 use Rattle.time.specs.Clock.{edge_of, after_of}
-use Rattle.time.specs.Laws.{no_zero, after_is}
+use Rattle.time.proofs.Laws.{no_zero, after_is}
 use Rattle.time.proofs.Clock.after.Goals as goal
 
 pub returns-then-zero : goal.returns-then-zero

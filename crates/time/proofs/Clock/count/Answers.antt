@@ -4,7 +4,7 @@
 use Rattle.std.proofs.Common.{◌≡◌, ℕ, ◌+◌, ◌-◌, ◌*◌, ◌/◌, ◌^◌, ◌≤◌, min, sym, ap, ◌∙◌, le_of_lt, arith, ltb-false, ltb-true}
 use Rattle.time.specs.Time.{time_of, earlier}
 use Rattle.time.specs.declared.Time.{Time}
-use Rattle.time.specs.Laws.{time_of_from, none_before}
+use Rattle.time.proofs.Laws.{time_of_from, none_before}
 use Rattle.time.proofs.Edges.{edges_before_words}
 use Rattle.time.proofs.Clock.count.Goals as goal
 use Rattle.time.proofs.Clock.count.Goals.{Start}

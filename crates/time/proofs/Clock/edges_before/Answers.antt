@@ -2,7 +2,7 @@
 -- Assumes nothing.
 use Rattle.std.proofs.Common.{sym, ◌∙◌}
 use Rattle.time.specs.Clock.{edges_before_of}
-use Rattle.time.specs.Laws.{no_zero}
+use Rattle.time.proofs.Laws.{no_zero}
 use Rattle.time.proofs.Clock.edges_before.Goals as goal
 
 pub returns-then-zero : goal.returns-then-zero

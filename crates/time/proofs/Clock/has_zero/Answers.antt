@@ -3,7 +3,7 @@
 use Rattle.std.proofs.Common.{◌≡◌, ℕ, Bool, true, false, not, ◌||◌, eqb, ltb, leb, refl, ⊎_elim, arith, le-ltb, lt-ltb, ne_eqb, le-leb}
 use borrow.Author.Tests.{lt-leb}
 use Rattle.time.specs.Clock.{zero_in}
-use Rattle.time.specs.Laws.{lt_or_le}
+use Rattle.time.proofs.Laws.{lt_or_le}
 use Rattle.time.proofs.Clock.has_zero.Goals as goal
 
 unordered : (z d : Bool) → (d || true) ≡ (z || d || true)

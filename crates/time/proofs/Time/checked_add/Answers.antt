@@ -3,7 +3,7 @@
 use Rattle.std.proofs.Common.{ℕ, ◌+◌, ◌^◌, ◌<◌, ◌≤◌, sym, ap, ◌∙◌, arith, rules}
 use Rattle.time.specs.Time.{time_of, sum_of}
 use Rattle.time.specs.declared.Moment.TheVariants.{At}
-use Rattle.time.specs.Laws.{time_from_lem, in_time, moment_at, moment_past}
+use Rattle.time.proofs.Laws.{time_from_lem, in_time, moment_at, moment_past}
 use Rattle.time.proofs.Sums.{carry_le, sum_past, sum_words}
 use Rattle.time.proofs.Time.checked_add.Goals as goal
 use Rattle.time.proofs.Time.checked_add.Goals.{After-sum-high, After-sum-top}

@@ -2,7 +2,7 @@
 -- Assumes nothing.
 use Rattle.std.proofs.Common.{◌+◌, ◌*◌, ◌/◌, ◌%◌, ◌^◌, arith}
 use Rattle.time.specs.Time.{time_of}
-use Rattle.time.specs.Laws.{time_from_lem}
+use Rattle.time.proofs.Laws.{time_from_lem}
 use Rattle.time.proofs.Orders.{half_lt, halved}
 use Rattle.time.proofs.Time.half.Goals as goal
 

@@ -4,7 +4,7 @@
 use Rattle.std.proofs.Common.{◌≡◌, ℕ, ◌+◌, ◌-◌, ◌/◌, ◌≤◌, sym, refl, ap, ◌∙◌, le_trans, not-le_of_lt, ltb-false, ltb-true}
 use Rattle.time.specs.Time.{time_of, moment_of, earlier, sum_of, midway}
 use Rattle.time.specs.declared.Time.{Time}
-use Rattle.time.specs.Laws.{time_from_lem, time_of_from, in_time, moment_from, moment_refused}
+use Rattle.time.proofs.Laws.{time_from_lem, time_of_from, in_time, moment_from, moment_refused}
 use Rattle.time.proofs.Orders.{midway_late, midway_le}
 use Rattle.time.proofs.Time.midway.Goals as goal
 use Rattle.time.proofs.Time.midway.Goals.{After-checked_add, Else-reversed, Start}

@@ -2,7 +2,7 @@
 -- Assumes nothing.
 use Rattle.std.proofs.Common.{◌+◌, ◌^◌, ◌<◌, sym, ◌∙◌, arith, le-ltb, lt-ltb}
 use Rattle.time.specs.Time.{time_of, next_time}
-use Rattle.time.specs.Laws.{time_from_lem, in_time}
+use Rattle.time.proofs.Laws.{time_from_lem, in_time}
 use Rattle.time.proofs.Sums.{next_past, next_words}
 use Rattle.time.proofs.Time.next.Goals as goal
 

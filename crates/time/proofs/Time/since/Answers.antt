@@ -2,7 +2,7 @@
 -- Assumes nothing.
 use Rattle.std.proofs.Common.{◌-◌}
 use Rattle.time.specs.Time.{time_of}
-use Rattle.time.specs.Laws.{time_from_lem}
+use Rattle.time.proofs.Laws.{time_from_lem}
 use Rattle.time.proofs.Orders.{no_borrow_le, one_left, no_borrow, borrowed}
 use Rattle.time.proofs.Time.since.Goals as goal
 

@@ -4,8 +4,8 @@ use Rattle.std.specs.Prelude.{◌≡◌, ℕ, ◌+◌, ◌-◌, ◌*◌, ◌/◌
 use Rattle.std.proofs.Common.{⊎_elim, sym, ap, ◌∙◌, subst, le_refl, le_trans, mul-le-mul_right, one-mul, arith, ltb-false}
 use Rattle.std.proofs.Math.Nat.{add-div_right}
 use Rattle.time.specs.Clock.{after_of, edge_of, span, zero_in}
-use Rattle.time.specs.Laws.{div_mono, lt_or_le, moment_past, next_last, next_later, time_of_from}
-use Rattle.time.specs.MoveLaws.{span_grows, spans}
+use Rattle.time.proofs.Laws.{div_mono, lt_or_le, moment_past, next_last, next_later, time_of_from}
+use Rattle.time.proofs.MoveLaws.{span_grows, spans}
 use Rattle.time.specs.Time.{moment_of, next_time, time_of}
 use Rattle.time.specs.declared.Clock.{Clock}
 use Rattle.time.specs.declared.Count.TheVariants.{Of, Refused as Uncounted}

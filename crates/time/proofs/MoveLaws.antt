@@ -9,7 +9,7 @@ use Rattle.time.specs.declared.NewClock.TheVariants.{Made as made, Refused as re
 use Rattle.time.specs.Clock.{after_of, and_move, count_to, edge_of, edges_before, in_width, move_of, moved_by, span, start_after, zero_in}
 use Rattle.time.specs.Time.{moment_of, time_from, time_of}
 use Rattle.time.specs.Truths.{and_left, and_right}
-use Rattle.time.specs.Laws.{div_mono, edge_mono, edge_start, no_zero, time_of_from}
+use Rattle.time.proofs.Laws.{div_mono, edge_mono, edge_start, no_zero, time_of_from}
 
 -- ## Edges after a move
 
