@@ -1,6 +1,5 @@
 -- `counts::checked_add` meets its contract. Assumes nothing.
 use Rattle.counts.specs.CountLaws.{fits_of, fits_over}
-use borrow.Author.Rules.{rules}
 use native.Mathlib.Omega.{arith}
 use Rattle.counts.proofs.checked_add.Goals as goal
 

@@ -1,7 +1,5 @@
 -- `counts::checked_mul` meets its contract. Assumes nothing.
 use Rattle.counts.specs.CountLaws.{fits_of, fits_over, product_gt, product_le, product_of_zero}
-use Rattle.counts.specs.Counts.{fits}
-use borrow.Author.Rules.{rules}
 use native.Mathlib.Nat.{pos_of_ne-zero}
 use native.Mathlib.Omega.{arith}
 use Rattle.counts.proofs.checked_mul.Goals as goal
