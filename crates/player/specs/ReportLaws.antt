@@ -7,7 +7,7 @@ use Rattle.clocks.specs.declared.Clocks.{Clocks}
 use Rattle.window.specs.declared.Window.{Window}
 use Rattle.window.specs.Lines.{Line}
 use Rattle.window.specs.Window.{take_of, report_of}
-use Rattle.window.specs.ReportLaws.{counts_latest_lem}
+use Rattle.window.proofs.ReportLaws.{counts_latest_lem}
 use Rattle.answers.specs.declared.Output.{Output}
 use Rattle.player.specs.declared.Player.{Player}
 use Rattle.player.specs.Trace.{Run, run, run_of, line_text, next_player, fresh_player}

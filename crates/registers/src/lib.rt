@@ -39,6 +39,7 @@ pub enum Register {
 
 impl Register {
     // Address bits 0 to 2 choose.
+    #[tactic(auto, unfolding(crate::specs::Registers::register_at))]
     pub fn at(address: u16) -> Register
         ensures { result ≡ register_at address }
     {

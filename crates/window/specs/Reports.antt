@@ -1,4 +1,4 @@
--- Definitions: request (l) of document 02, the statement on what a window reports after any lines. Its proof is `counts_latest_lem` in ReportLaws.antt.
+-- Definitions: request (l) of document 02, the statement on what a window reports after any lines. Its proof is `counts_latest_lem` in proofs/ReportLaws.antt.
 use Rattle.std.specs.Prelude.{◌≡◌, List}
 use Rattle.window.specs.Lines.{Line, rises, latest}
 use Rattle.window.specs.Window.{report_of, window_of}

@@ -39,8 +39,8 @@ impl Window {
 
     // In how many of the latest 64 lines a flag rose.
     pub fn report(self) -> u64
-        ensures value { result ≡ report_of self }
-        ensures value_2 { (lines : List Line) → self ≡ window_of lines → result ≡ rises (latest 64 lines) }
+        ensures report { result ≡ report_of self }
+        ensures counts { (lines : List Line) → self ≡ window_of lines → result ≡ rises (latest 64 lines) }
     {
         u64::count_ones(self.bits) as u64
     }

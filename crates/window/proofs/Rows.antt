@@ -3,7 +3,7 @@ use Rattle.std.specs.Prelude.{◌≡◌, refl, List, [], ◌∷◌, ◌++◌, ma
 use Rattle.std.proofs.Common.{ap₂}
 use Rattle.window.specs.Lines.{Line, rises_in, rise_of, rises, latest}
 use Rattle.window.specs.Window.{report_of, window_of}
-use Rattle.window.specs.ReportLaws.{counts_latest_lem}
+use Rattle.window.proofs.ReportLaws.{counts_latest_lem}
 
 abbrev line : ℕ → ℕ → Line
 line b a = record { before = b; after = a }
