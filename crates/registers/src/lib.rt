@@ -69,7 +69,7 @@ fn shown_control(drive: Levels, busy: bool, reset: bool) -> u8
 }
 
 impl Registers {
-    // At power_on.
+    // At power-on.
     pub fn new() -> Registers
         ensures { result ≡ default_registers }
     {

@@ -1,5 +1,5 @@
 -- Definitions: a whole byte on the wires, and the statements that eight bits sampled, and eight bits sent, high first are the byte. Their
--- proofs are `bytes_come_in_lem`, `own_address_only_lem` and `bytes_go_out_lem` in ByteLaws.antt. Order and shifting are those of UM10204, in the crate bus.
+-- proofs are `bytes_come_in_lem`, `own_address_only_lem` and `bytes_go_out_lem` in proofs/ByteLaws.antt. Order and shifting are those of UM10204, in the crate bus.
 use Rattle.std.specs.Prelude.{◌≡◌, ℕ, zero, suc, ◌+◌, ◌/◌, ◌%◌, ◌<◌, Bool, true, false, not, List, [], ◌∷◌, ◌==◌}
 use Rattle.bus.specs.Bus.{first_bit, is_acknowledge, levels, shift_in}
 use Rattle.sensor.specs.Edge.{edge_of}

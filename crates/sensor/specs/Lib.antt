@@ -5,7 +5,4 @@ pub mod Falling
 pub mod Edge
 pub mod Below
 pub mod Runs
-pub mod RunLaws
-pub mod EdgeLaws
 pub mod Bytes
-pub mod ByteLaws

@@ -1,5 +1,5 @@
 -- Definitions: runs of edges from the fresh state, and the statement on the states that they reach. Its proof is `reached_states_lem` in
--- RunLaws.antt. (document 02, (a); devices/bma150/i2c.rs 85, 146)
+-- proofs/RunLaws.antt. (document 02, (a); devices/bma150/i2c.rs 85, 146)
 use Rattle.std.specs.Prelude.{◌≡◌, Bool, true, false, not, List, [], ◌∷◌}
 use Rattle.bus.specs.Bus.{levels}
 use Rattle.bus.specs.declared.Levels.{Levels}

@@ -76,6 +76,7 @@ impl Heard {
 
 impl Phase {
     // A rise that reads the byte being sent, or makes a byte of data whole.
+    #[tactic(auto, unfolding(crate::specs::Edge::takes_at_rise))]
     pub(crate) fn takes_at_rise(self, bits: u8) -> bool
         ensures { result ≡ takes_at_rise self bits }
     {
@@ -92,6 +93,7 @@ impl Phase {
     }
 
     // A fall after which a byte is sent.
+    #[tactic(auto, unfolding(crate::specs::Edge::prepares_at_fall))]
     pub(crate) fn prepares_at_fall(self) -> bool
         ensures { result ≡ prepares_at_fall self }
     {
@@ -131,6 +133,7 @@ impl State {
     }
 
     // SCL rises, falls, or stays.
+    #[tactic(auto, unfolding(crate::specs::Edge::clocked_of))]
     pub(crate) fn clocked(self, tx: Tx, previous: Levels, current: Levels, outside: Outside) -> Edge
         ensures { result ≡ clocked_of self tx previous current outside }
     {

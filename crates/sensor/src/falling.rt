@@ -17,6 +17,7 @@ fn sent(tx: Tx) -> u8
 }
 
 // The bit of a byte that goes over the line after so many others.
+#[tactic(auto, unfolding(crate::specs::State::sent_bit))]
 fn sent_bit(sampled: u8, byte: u8) -> bool
     ensures { result ≡ sent_bit sampled byte }
 {
@@ -25,6 +26,7 @@ fn sent_bit(sampled: u8, byte: u8) -> bool
 
 impl State {
     // The next byte is prepared, and its first bit shown.
+    #[tactic(auto, unfolding(crate::specs::Falling::launch_of))]
     fn launched(self, prepared: Tx) -> Edge
         ensures { result ≡ launch_of prepared self }
     {
@@ -38,6 +40,7 @@ impl State {
     }
 
     // The acknowledge is over.
+    #[tactic(auto, unfolding(crate::specs::Falling::follow_of))]
     fn follow(self, following: Following, tx: Tx, prepared: Tx) -> Edge
         ensures { result ≡ follow_of following tx prepared self }
     {
@@ -50,6 +53,7 @@ impl State {
     }
 
     // SDA is pulled from the eighth fall to the ninth.
+    #[tactic(auto, unfolding(crate::specs::Falling::acknowledge_of))]
     fn acknowledge(mut self, following: Following, edge: u8, tx: Tx, prepared: Tx) -> Edge
         ensures { result ≡ acknowledge_of following edge tx prepared self }
     {
@@ -73,6 +77,7 @@ impl State {
     }
 
     // The next bit is shown; after the last one SDA is released for the master's acknowledge.
+    #[tactic(auto, unfolding(crate::specs::Falling::send_of))]
     fn send(self, sampled: u8, tx: Tx) -> State
         ensures { result ≡ send_of sampled tx self }
     {
@@ -91,6 +96,7 @@ impl State {
     }
 
     // The master has acknowledged, or not.
+    #[tactic(auto, unfolding(crate::specs::Falling::heard_of))]
     fn heard(self, heard: Heard, tx: Tx, prepared: Tx) -> Edge
         ensures { result ≡ heard_of heard tx prepared self }
     {
@@ -106,6 +112,7 @@ impl State {
         }
     }
 
+    #[tactic(auto, unfolding(crate::specs::Falling::falling_of))]
     pub(crate) fn falling(self, tx: Tx, prepared: Tx) -> Edge
         ensures { result ≡ falling_of self.phase tx prepared self }
     {

@@ -135,6 +135,7 @@ impl State {
     }
 
     // Edges of SCL before one can change the parser; within a byte (8 - bits) * 2 - 1, modulo 256.
+    #[tactic(auto, unfolding(crate::specs::State::effect_edges_of))]
     pub fn effect_edges(self) -> u8
         ensures { result ≡ effect_edges_of self.phase self.bits }
     {
@@ -172,6 +173,7 @@ impl State {
     }
 
     // Whether a saved state is one that the parser can be in.
+    #[tactic(auto, unfolding(crate::specs::State::validate_of))]
     pub fn validate(self, available: bool) -> bool
         ensures { result ≡ validate_of available self }
     {
@@ -180,6 +182,7 @@ impl State {
     }
 
     // Whether an edge wants the conversion brought up to the present time first.
+    #[tactic(auto, unfolding(crate::specs::Edge::consumes_of))]
     pub fn consumes_conversion(
         self,
         previous: Levels,
@@ -196,6 +199,7 @@ impl State {
     }
 
     // What an edge asks of the rest of the sensor, which doesn't depend on what that will answer.
+    #[tactic(auto, unfolding(crate::specs::Edge::effect_of))]
     pub fn effect_at(self, previous: Levels, current: Levels, blocked: bool, quiet: bool) -> Effect
         ensures { result ≡ effect_of self previous current blocked quiet }
     {
@@ -210,6 +214,7 @@ impl State {
     }
 
     // The previous levels are those that the wires settled at, the current ones those before the sensor's own effect.
+    #[tactic(auto, unfolding(crate::specs::Edge::edge_of))]
     pub fn i2c_pins(self, tx: Tx, previous: Levels, current: Levels, outside: Outside) -> Edge
         ensures { result ≡ edge_of self tx previous current outside }
     {

@@ -58,6 +58,7 @@ impl State {
     }
 
     // What the phase asks of the other fields.
+    #[tactic(auto, unfolding(crate::specs::State::sound_of))]
     pub(crate) fn sound(self) -> bool
         ensures { result ≡ sound_of self.phase self }
     {

@@ -31,6 +31,7 @@ fn written_next(quiet: bool) -> Following
 
 impl State {
     // An address that isn't the sensor's gets no acknowledge.
+    #[tactic(auto, unfolding(crate::specs::Rising::addressed_of))]
     fn addressed(self, byte: u8) -> State
         ensures { result ≡ addressed_of byte self }
     {
@@ -42,6 +43,7 @@ impl State {
         }
     }
 
+    #[tactic(auto, unfolding(crate::specs::Rising::wrote_of))]
     fn wrote(self, byte: u8, tx: Tx, written: Written) -> Edge
         ensures { result ≡ wrote_of written byte tx self }
     {
@@ -65,6 +67,7 @@ impl State {
     }
 
     // A byte is whole.
+    #[tactic(auto, unfolding(crate::specs::Rising::whole_of))]
     fn whole(self, kind: Receive, byte: u8, tx: Tx, written: Written) -> Edge
         ensures { result ≡ whole_of kind byte tx written self }
     {
@@ -82,6 +85,7 @@ impl State {
     }
 
     // A bit is sampled.
+    #[tactic(auto, unfolding(crate::specs::Rising::sampled_of))]
     fn sampled(self, kind: Receive, tx: Tx, sda: bool, written: Written) -> Edge
         ensures { result ≡ sampled_of kind tx sda written self }
     {
@@ -102,6 +106,7 @@ impl State {
     }
 
     // A bit was read; after the last one the pointer goes on to the next register.
+    #[tactic(auto, unfolding(crate::specs::Rising::counted_of))]
     fn counted(self, sampled: u8) -> State
         ensures { result ≡ counted_of sampled self }
     {
@@ -120,6 +125,7 @@ impl State {
     }
 
     // A bit of the byte being sent is read.
+    #[tactic(auto, unfolding(crate::specs::Rising::read_on_of))]
     fn read_on(self, sampled: u8, tx: Tx) -> Edge
         ensures { result ≡ read_on_of sampled tx self }
     {
@@ -135,6 +141,7 @@ impl State {
         }
     }
 
+    #[tactic(auto, unfolding(crate::specs::Rising::rising_of))]
     pub(crate) fn rising(self, tx: Tx, sda: bool, written: Written) -> Edge
         ensures { result ≡ rising_of self.phase tx sda written self }
     {

@@ -51,6 +51,7 @@ fn heard_of(present: u8, acknowledged: u8) -> Heard
     }
 }
 
+#[tactic(auto, unfolding(crate::specs::Given::phase_at))]
 fn phase_of(n: u8, first: u8, second: u8) -> Phase
     ensures { result ≡ phase_at n first second }
 {
@@ -77,6 +78,7 @@ fn phase_of(n: u8, first: u8, second: u8) -> Phase
     }
 }
 
+#[tactic(auto, unfolding(crate::specs::Given::state_at))]
 pub(crate) fn state_of(word: u64) -> State
     ensures { result ≡ state_at word }
 {
@@ -128,6 +130,7 @@ pub(crate) fn current_of(flags: u8) -> Levels
     }
 }
 
+#[tactic(auto, unfolding(crate::specs::Given::outside_at))]
 fn outside_of(given: u64) -> Outside
     ensures { result ≡ outside_at given }
 {
@@ -143,6 +146,7 @@ fn outside_of(given: u64) -> Outside
     }
 }
 
+#[tactic(auto, unfolding(crate::specs::Given::edge_at))]
 pub(crate) fn edge_of(state: u64, given: u64) -> Edge
     ensures { result ≡ edge_at state given }
 {

@@ -22,6 +22,7 @@ fn above(high: u64, low: u8) -> u64
 }
 
 // The first byte is the lowest.
+#[tactic(auto, unfolding(crate::specs::Bytes::packed))]
 pub(crate) fn packed(a: u8, b: u8, c: u8, d: u8, e: u8, f: u8, g: u8, h: u8) -> u64
     ensures { result ≡ packed a b c d e f g h }
 {

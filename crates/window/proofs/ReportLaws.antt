@@ -1,7 +1,7 @@
 -- Laws: what a window reports after any list of lines is the count that Reports.antt states. Assumes nothing.
-use Rattle.std.specs.Prelude.{◌≡◌, Bool, true, false, cond, ℕ, zero, suc, ◌+◌, ◌-◌, ◌*◌, ◌/◌, ◌%◌, ◌^◌, ◌≤◌, ◌<◌, length, drop}
-use Rattle.std.proofs.Common.{sym, ap, ◌∙◌, add_comm, mul_assoc, mod-lt, mod-eq_of_lt, pow-suc, arith, length-append, pow_pos}
-use mathlib.Core.List.{List, [], ◌∷◌, ◌++◌, append_assoc, append-nil, foldl}
+use Rattle.std.specs.Prelude.{◌≡◌, Bool, true, false, cond, ℕ, zero, suc, ◌+◌, ◌-◌, ◌*◌, ◌/◌, ◌%◌, ◌^◌, ◌≤◌, ◌<◌, length, drop, List, [], ◌∷◌, ◌++◌}
+use Rattle.std.proofs.Common.{sym, ap, ◌∙◌, add_comm, mul_assoc, mod-lt, mod-eq_of_lt, pow-suc, arith, length-append, pow_pos, append_assoc, append-nil}
+use mathlib.Core.List.{foldl}
 use Rattle.std.proofs.Math.Nat.{sub-zero, zero-mod}
 use Rattle.std.proofs.Math.Arith.{digits_mod}
 use Rattle.std.specs.Int.Count.{ones, ones_step}

@@ -1,6 +1,6 @@
 -- Definitions: the window, empty, after one line more, and after a list of lines (document 02, requests (d) and (l)).
-use Rattle.std.specs.Prelude.{ℕ, ◌+◌, ◌*◌, ◌%◌, ◌^◌}
-use mathlib.Core.List.{List, foldl}
+use Rattle.std.specs.Prelude.{ℕ, ◌+◌, ◌*◌, ◌%◌, ◌^◌, List}
+use mathlib.Core.List.{foldl}
 use Rattle.std.specs.Int.Count.{ones}
 use Rattle.window.specs.declared.Window.{Window}
 use Rattle.window.specs.Lines.{Line, rise_of}

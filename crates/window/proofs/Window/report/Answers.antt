@@ -1,4 +1,4 @@
-use mathlib.Core.Path.{refl, ap, ◌∙◌}
+use Rattle.std.proofs.Common.{refl, ap, ◌∙◌}
 use Rattle.window.specs.Window.{report_of}
 use Rattle.window.proofs.ReportLaws.{counts_latest_lem}
 use Rattle.window.proofs.Window.report.Goals as goal

@@ -1,4 +1,4 @@
-use native.Mathlib.Omega.{arith}
+use Rattle.std.proofs.Common.{arith}
 use Rattle.window.specs.Window.{take_of}
 use Rattle.window.proofs.ReportLaws.{rise_le}
 use Rattle.window.proofs.Window.take.Goals as goal
