@@ -20,7 +20,6 @@ use Rattle.iic.specs.declared.Ended.TheVariants as ended
 use Rattle.iic.specs.declared.Ended.{Ended}
 use Rattle.iic.specs.declared.Iic.{Iic}
 use Rattle.iic.specs.declared.Stepped.{Stepped}
-use Rattle.registers.specs.contracts.Register as register-type
 use Rattle.registers.specs.declared.Register.TheVariants.{ICCR1, ICCR2, ICDRR, ICDRT, ICIER, ICMR, ICSR, SAR}
 use Rattle.registers.specs.declared.Register.{Register}
 use Rattle.time.specs.Truths.{unnot}
@@ -28,12 +27,10 @@ use Rattle.time.specs.declared.Time.{Time}
 use Rattle.waits.specs.Ends.{acts}
 use Rattle.waits.specs.declared.Due.TheVariants as due
 use Rattle.waits.specs.declared.Due.{Due}
-use denote.Enum.Declared.{tag_of}
 use lib.Dec.{eqb}
 use mathlib.Core.Bool.{Bool, beq, ◌&&◌, ◌||◌, cond, false, false≢true, not, true, true≢false}
-use mathlib.Core.List.{List, [], ◌∷◌}
+use mathlib.Core.Logic.{◌⊎◌, inl, inr}
 use mathlib.Core.Path.{◌≡◌, ◌∙◌, ap, refl, sym}
-use types.Run.{OneOf, miss}
 
 -- ## A refusal n that stands before a call, or none
 
@@ -85,45 +82,36 @@ module _ (f : Iic → Stepped) (d z : Due) (x : Stepped) where
     pub idled : acts z ≡ false → o ≡ and_then o f
     idled a = idled_in o.ended o.state i h a
 
--- ## Registers, where an arm names several or none: by the numbers of those that it is for
+-- ## Registers, where an arm names several or none
 
-abbrev Registers : List ℕ → Register → Type 0
-Registers ks x = OneOf ks (tag_of register-type.the_type x)
-
-pub not_taken : (x : Register) → Registers (0 ∷ 1 ∷ 2 ∷ 3 ∷ 5 ∷ 6 ∷ []) x → (now : Time) (k : Domain) (s : Iic) → fine s ≡ read_at x now k s
+pub not_taken : (x : Register) → (x ≡ ICSR → ⊥) → (x ≡ ICDRR → ⊥) → (now : Time) (k : Domain) (s : Iic) → fine s ≡ read_at x now k s
 unfolding read_at
-not_taken ICCR1 h = λ now k s. refl
-not_taken ICCR2 h = λ now k s. refl
-not_taken ICMR h = λ now k s. refl
-not_taken ICIER h = λ now k s. refl
-not_taken ICSR h = absurd (miss (0 ∷ 1 ∷ 2 ∷ 3 ∷ 5 ∷ 6 ∷ []) 4 tt h)
-not_taken SAR h = λ now k s. refl
-not_taken ICDRT h = λ now k s. refl
-not_taken ICDRR h = absurd (miss (0 ∷ 1 ∷ 2 ∷ 3 ∷ 5 ∷ 6 ∷ []) 7 tt h)
+not_taken ICCR1 f g = λ now k s. refl
+not_taken ICCR2 f g = λ now k s. refl
+not_taken ICMR f g = λ now k s. refl
+not_taken ICIER f g = λ now k s. refl
+not_taken ICSR f g = absurd (f refl)
+not_taken SAR f g = λ now k s. refl
+not_taken ICDRT f g = λ now k s. refl
+not_taken ICDRR f g = absurd (g refl)
 
-pub kicking : (x : Register) → Registers (4 ∷ 5 ∷ []) x →
+pub kicking : (x : Register) → (x ≡ ICSR) ⊎ (x ≡ SAR) →
     (v : ℕ) (now : Time) (k : Domain) (s : Iic) → kick_of now k (write_plain x v s) ≡ write_at x v now k s
 unfolding write_at
-kicking ICCR1 h = absurd (miss (4 ∷ 5 ∷ []) 0 tt h)
-kicking ICCR2 h = absurd (miss (4 ∷ 5 ∷ []) 1 tt h)
-kicking ICMR h = absurd (miss (4 ∷ 5 ∷ []) 2 tt h)
-kicking ICIER h = absurd (miss (4 ∷ 5 ∷ []) 3 tt h)
-kicking ICSR h = λ v now k s. refl
-kicking SAR h = λ v now k s. refl
-kicking ICDRT h = absurd (miss (4 ∷ 5 ∷ []) 6 tt h)
-kicking ICDRR h = absurd (miss (4 ∷ 5 ∷ []) 7 tt h)
+kicking x (inl e) = λ v now k s. rw e refl
+kicking x (inr e) = λ v now k s. rw e refl
 
-pub silent : (x : Register) → Registers (2 ∷ 3 ∷ 7 ∷ []) x →
+pub silent : (x : Register) → (x ≡ ICCR1 → ⊥) → (x ≡ ICCR2 → ⊥) → (x ≡ ICSR → ⊥) → (x ≡ SAR → ⊥) → (x ≡ ICDRT → ⊥) →
     (v : ℕ) (now : Time) (k : Domain) (s : Iic) → fine (write_plain x v s) ≡ write_at x v now k s
 unfolding write_at
-silent ICCR1 h = absurd (miss (2 ∷ 3 ∷ 7 ∷ []) 0 tt h)
-silent ICCR2 h = absurd (miss (2 ∷ 3 ∷ 7 ∷ []) 1 tt h)
-silent ICMR h = λ v now k s. refl
-silent ICIER h = λ v now k s. refl
-silent ICSR h = absurd (miss (2 ∷ 3 ∷ 7 ∷ []) 4 tt h)
-silent SAR h = absurd (miss (2 ∷ 3 ∷ 7 ∷ []) 5 tt h)
-silent ICDRT h = absurd (miss (2 ∷ 3 ∷ 7 ∷ []) 6 tt h)
-silent ICDRR h = λ v now k s. refl
+silent ICCR1 a b c d e = absurd (a refl)
+silent ICCR2 a b c d e = absurd (b refl)
+silent ICMR a b c d e = λ v now k s. refl
+silent ICIER a b c d e = λ v now k s. refl
+silent ICSR a b c d e = absurd (c refl)
+silent SAR a b c d e = absurd (d refl)
+silent ICDRT a b c d e = absurd (e refl)
+silent ICDRR a b c d e = λ v now k s. refl
 
 -- ## At rest
 
