@@ -11,11 +11,11 @@ use Rattle.clocks.specs.declared.Clocks.{Clocks}
 use Rattle.time.specs.Truths.{or_left, or_right}
 use Rattle.time.specs.declared.Time.{Time}
 use Rattle.rates.specs.Rates.{default_rates}
-use Rattle.hosts.specs.Agree.{good_start, idle_same}
+use Rattle.hosts.proofs.Agree.{good_start, idle_same}
 use Rattle.hosts.specs.Calls as hosts
 use Rattle.hosts.specs.Calls.{Host, advance, outcome_of}
 use Rattle.hosts.specs.Invariant.{Good}
-use Rattle.hosts.specs.Kept.{good_after}
+use Rattle.hosts.proofs.Kept.{good_after}
 use Rattle.iic.specs.State.{default_iic}
 use Rattle.iic.specs.Told.{is_refusal}
 use Rattle.iic.specs.declared.Iic.{Iic}
