@@ -24,8 +24,8 @@ use Rattle.lines.specs.declared.Last.TheVariants.{First, After}
 use Rattle.answers.specs.declared.Shown.TheVariants.{Nobody}
 use Rattle.lines.specs.declared.Verb.{Verb}
 use Rattle.lines.specs.declared.Verb.TheVariants as verb
-use Rattle.wires.specs.FirstPass.{default_keeps, line_keeps, on_sound, unnamed}
-use Rattle.wires.specs.Passes.{line_sound, report_sound, visited_sound}
+use Rattle.wires.proofs.FirstPass.{default_keeps, line_keeps, on_sound, unnamed}
+use Rattle.wires.proofs.Passes.{line_sound, report_sound, visited_sound}
 use Rattle.wires.specs.RuleLaws.{default_spaced}
 use Rattle.wires.specs.Rules.{Sound}
 use Rattle.wires.specs.Statement.{InWord}
