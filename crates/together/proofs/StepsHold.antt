@@ -45,7 +45,7 @@ use Rattle.bench.specs.Steps.{goes, goes_to, look_of, play_now_of, play_of, repo
 use Rattle.bench.specs.Turns.{passed_by, play_line_of, played_by, report_of, reported_by, unplayed_by, shown_by, visit_due_of, visit_of, visited_by}
 use Rattle.units.specs.Units.{is_named, is_present}
 use Rattle.bench.specs.Moments.{mark_of, moment_of, state_at, state_in}
-use Rattle.together.specs.CallLaws.{asks_now, made_line, made_report, made_visit}
+use Rattle.together.proofs.CallLaws.{asks_now, made_line, made_report, made_visit}
 use Rattle.together.specs.Calls.{asks, call_from, doing_in, goes_on, line_in, made, one, unit_in}
 use Rattle.together.specs.Runs.{is_reporting}
 use Rattle.together.specs.SameTime.{sound_same, starting_same}
