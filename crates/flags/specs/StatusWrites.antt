@@ -1,5 +1,5 @@
 -- Definitions: what a status write can do to the flags, and what every reached state meets: the statements of request (j) of document 02. Their
--- proofs are `status_writes_lem`, `before_any_read_lem` and `reached_states_lem` in Runs.antt.
+-- proofs are `status_writes_lem`, `before_any_read_lem` and `reached_states_lem` in proofs/Runs.antt.
 use Rattle.std.specs.Prelude.{ℕ, ◌≤◌, Bool, true, false, not, cond, List, [], ◌∷◌, ◌≡◌, eqb}
 use Rattle.std.specs.Int.Bits.{bit_and}
 use Rattle.bus.specs.Bits.{has}

@@ -130,7 +130,7 @@ second = set_gate true (at 0) ∷ write 5 0x01 (at 0) ∷ input_pins false true 
 abbrev third : List Call
 third = set_gate true (at 0) ∷ write 0 0x80 (at 0) ∷ []
 
-clock-rows :
+clock_rows :
     -- the visit is struck, though the wait's time is refused, and what follows is left
     (calls (left_of default_rates late (made (first ++ (write 0 0xa0 (at 0) ∷ advance (at 0) ∷ write 3 0x10 (at 0) ∷ []))))
     ≡ first ++ (write 0 0xa0 (at 0) ∷ write 3 0x10 (at 0) ∷ []))
@@ -144,7 +144,7 @@ clock-rows :
     × (calls (left_of default_rates ticking (made (third ++ (input_pins true false (at 0) ∷ advance (at 1) ∷ advance (at 3) ∷ advance (at 2) ∷ []))))
     ≡ third ++ (input_pins true false (at 0) ∷ advance (at 2) ∷ []))
 unfolding Time.midway Time.moment_of Time.same_time Clock.after_of Clock.edge_of Clock.zero_in Clocks.available_of Clocks.fed_by Clocks.has_zero Clocks.routed_edge Clocks.source_of Clocks.tap_edge Domain.domain_half_edge Domain.odd_edge Counts.fits Tap.route_of Tap.route_s Tap.route_w Tap.stage_below Tap.stage_of Wait.dated Wait.edge_deadline Wait.wait_deadline Reading.continued_of Writing.control_set Writing.enter_reset_of Writing.give_data_of Reading.peek_at Writing.pull_sda_of Reading.read_at Reading.read_data_of Parts.redirect_frame Writing.redirected Registers.register_at Reading.resumed_of Writing.send_on_of Writing.stop_receive_of Writing.take_control_of Reading.taken_of Writing.write_address_of Writing.write_at Writing.out_of_reset_of Writing.write_control_of Writing.write_data_of Writing.write_enable_of Writing.write_mode_of Writing.write_command_of Writing.write_status_of Iic.advance_of Iic.input_pins_of Iic.keep_stretched_of Iic.peek_of Iic.read_of Iic.set_gate_of Iic.take_pins_of Iic.turn_gate_of Iic.turn_waits_of Iic.visit_of Iic.write_of Clocking.fire_clock_of Clocking.fire_filter_of Clocking.fire_monitor_of Clocking.fire_setup_of Half.half_deadline Kick.clock_frame_of Kick.kick_of Kick.launch_of Ready.low_half_of Ready.next_frame_of Shift.begin_frame_of Shift.load_transmit_of Shift.set_hold_of State.initial State.stop_shifter_of Ends.due_of Ends.half_end Rates.period_of Rates.rate Waits.schedule_filter_of Waits.start_clock_of Waits.turn_clock_of Waits.turn_filter_of Waits.turn_monitor_of Waits.turn_setup_of Ends.wait_end Hosts.after Hosts.any_due Hosts.idle Hosts.outcome_of Hosts.start Demand3.left Rates.rates_hold Rates.lengths_hold Rates.monitor_below Rates.monitor_halves
-clock-rows =
+clock_rows =
     let clocked : outcome_of late (write 0 0xa0 (at 0)) (after_all late (start default_rates) first).state ≡ outcome nothing (set_clock_wait (maybe.Half (half_wait false 29)) receiving) =
     ap (λ (w : NewHalf). of_step (clock_from w receiving)) late_half in
     let refused : outcome_of late (write 0 0x80 (at 0)) (after_all late (start default_rates) second).state ≡ outcome (refusal 7) unkicked =

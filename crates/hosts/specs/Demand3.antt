@@ -1,4 +1,4 @@
--- Definitions: demand 3 of document 01, the statement on two hosts. Its proof is `two_hosts_agree_lem` in Agree.antt.
+-- Definitions: demand 3 of document 01, the statement on two hosts. Its proof is `two_hosts_agree_lem` in proofs/Agree.antt.
 use Rattle.std.specs.Prelude.{ℕ, zero, suc, Bool, false, ◌||◌, cond, List, [], ◌∷◌, map, ◌≡◌, take}
 use Rattle.clocks.specs.declared.Clocks.{Clocks}
 use Rattle.iic.specs.declared.Iic.{Iic}

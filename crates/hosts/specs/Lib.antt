@@ -2,10 +2,6 @@ pub mod Calls
 pub mod Demand3
 pub mod Rows
 pub mod ClockRows
-pub mod PastRefusal
 pub mod Invariant
 pub mod Left
 pub mod Kicked
-pub mod Kept
-pub mod Agree
-pub mod Uses

@@ -1,2 +1,2 @@
-// No code: the statement on two hosts, idle calls and the proof are in specs/.
+// No code: the statement on two hosts and idle calls are in specs/, the proof in proofs/.
 #![tactic(auto)]

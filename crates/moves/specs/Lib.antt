@@ -2,9 +2,6 @@ pub mod Statement
 pub mod Alike
 pub mod Waits
 pub mod Steps
-pub mod Agree
 pub mod Sets
 pub mod Moving
-pub mod Own
-pub mod Proof
 pub mod Rows

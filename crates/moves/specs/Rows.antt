@@ -74,12 +74,12 @@ answers (x ∷ l) = x.answer ∷ answers l
 abbrev low : Iic
 low = set_raw (levels false true) awake
 
-pub stopped-domain :
+pub stopped_domain :
     Moved (ticking false (at 0) 0) 1 (ticking false (at 1) 1)
     × (outcome_of (ticking false (at 0) 0) (input_pins false true (at 1)) awake ≡ outcome (bit true) (set_filter_wait (Waiting (wait_of (system_tap 1) (Running 1))) low))
     × (outcome_of (ticking false (at 1) 1) (input_pins false true (at 1)) awake ≡ outcome (bit true) (set_filter_wait (Waiting (wait_of (system_tap 1) (Running 2))) low))
 unfolding Clock.move_of Clock.moved_by Clock.zero_in Clocks.has_zero Moves.move_system Counts.fits Domain.domain_ticks System.domain_deadline System.system_after System.system_started_at Wait.started_by Iic.input_pins_of Iic.take_pins_of Waiting.schedule_filter_of State.initial Hosts.outcome_of Rates.rates_hold Rates.lengths_hold Rates.monitor_below Rates.monitor_halves Rates.period_of Rates.rate
-stopped-domain = (refl, refl, refl)
+stopped_domain = (refl, refl, refl)
 
 -- ## A new start at the last time: no time is later, so that the edge there isn't counted before the move, and is after it
 
@@ -100,25 +100,25 @@ wait_after_lem : system_after last_time 1 (ticking true last_time 1).system ≡ 
 unfolding Time.moment_of Time.next_time Clock.after_of Clock.edge_of Clock.edges_before_of Clock.zero_in Domain.domain_ticks Counts.fits Wait.dated System.domain_deadline Wait.started_by System.system_started_at System.system_after
 wait_after_lem = rw last_counted refl
 
-pub last-time :
+pub last_time_lem :
     Moved (ticking true unit_before 0) 1 (ticking true last_time 1)
     × (outcome_of (ticking true unit_before 0) (input_pins false true last_time) awake ≡ outcome (bit true) (set_filter_wait (Waiting (wait_of (system_tap 1) (Running 1))) low))
     × (outcome_of (ticking true last_time 1) (input_pins false true last_time) awake ≡ outcome (refusal 7) low)
 unfolding Clock.move_of Clock.moved_by Clock.zero_in Clocks.has_zero Moves.move_system Iic.input_pins_of Iic.take_pins_of Waiting.schedule_filter_of State.initial Hosts.outcome_of Rates.rates_hold Rates.lengths_hold Rates.monitor_below Rates.monitor_halves Rates.period_of Rates.rate
-last-time = (refl, rw wait_before refl, rw wait_after_lem refl)
+last_time_lem = (refl, rw wait_before refl, rw wait_after_lem refl)
 
 -- ## Waits judged by `deadline`, which is none while the gate is off: the clock's wait is due at 0 s all the same
 
 abbrev asleep : Iic
 asleep = set_clock_wait (Half (half_wait false 0)) (set_control 0x80 default_iic)
 
-pub judged-by-deadline :
+pub judged_by_deadline :
     Moved (ticking true (at 0) 0) 1 (ticking true (at 1) 1)
     × (deadline_of asleep (ticking true (at 0) 0) ≡ ends.Never)
     × (answers (outcomes (ticking true (at 0) 0) asleep (set_gate true (at 1) ∷ deadline ∷ [])) ≡ nothing ∷ of_deadline (ends.At (at 0)) ∷ [])
     × (answers (outcomes (ticking true (at 1) 1) asleep (set_gate true (at 1) ∷ deadline ∷ [])) ≡ nothing ∷ refusal 8 ∷ [])
 unfolding Time.moment_of Clock.after_of Clock.edge_of Clock.move_of Clock.moved_by Clock.zero_in Clocks.has_zero Moves.move_system Domain.domain_half_edge Wait.dated Half.half_deadline Half.half_resume Ends.half_end Ends.sooner Ends.wait_end Iic.deadline_of Iic.earliest_of Iic.keep_stretched_of Iic.set_gate_of Iic.turn_gate_of Iic.turn_waits_of Kick.clock_frame_of Kick.kick_of Readies.next_frame_of Shift.load_transmit_of State.initial Waiting.schedule_filter_of Waiting.turn_clock_of Waiting.turn_filter_of Waiting.turn_monitor_of Waiting.turn_setup_of Hosts.outcome_of Statement.outcomes Rates.rates_hold Rates.lengths_hold Rates.monitor_below Rates.monitor_halves Rates.period_of Rates.rate
-judged-by-deadline = (refl, refl, refl, refl)
+judged_by_deadline = (refl, refl, refl, refl)
 
 -- ## A wait refused 8, over a clock that was moved before: a falling clock before an acknowledge, with ICMR's WAIT, lengthens it by 112 half counts, to an
 -- edge between the two ordinals
@@ -131,10 +131,10 @@ falling =
     set_filter_wait (Waiting (wait_of (system_tap 1) (Ready (at 100)))) (set_clock_wait (Half (half_wait false 0)) (set_frame (InFrame sending) (set_mode 0x40
     (set_raw (levels false true) (set_latch (levels false true) (set_control 0xb0 (gated true default_iic)))))))
 
-pub refused-wait :
+pub refused_wait :
     Moved (ticking true (at 1) 1) 99 (ticking true (at 100) 100)
     × (half_deadline (half_wait false 0) (ticking true (at 1) 1).system ≡ ends.Refused 8)
     × ((outcome_of (ticking true (at 1) 1) (advance (at 100)) falling).answer ≡ nothing)
     × ((outcome_of (ticking true (at 100) 100) (advance (at 100)) falling).answer ≡ refusal 8)
 unfolding Time.moment_of Time.same_time Clock.after_of Clock.edge_of Clock.move_of Clock.moved_by Clock.zero_in Clocks.has_zero Moves.move_system Counts.fits Domain.domain_half_edge Wait.dated Wait.wait_deadline Half.half_deadline Ends.due_of Ends.half_end Ends.wait_end Rates.period_of Rates.rate Iic.advance_of Iic.visit_of Clocking.filter_fires_of Clocking.fire_clock_of Clocking.fire_filter_of Clocking.fire_monitor_of Clocking.fire_setup_of Conditions.bus_edge_of Edges.condition_step_of Edges.fall_ack_of Edges.fall_of Edges.falling_of Edges.filtered_edges_of Edges.insert_wait_of Edges.scl_edge_of Edges.stretch_ends_of Falls.acknowledge_of Falls.end_frame_of Falls.fall_taken_of Falls.follow_of Falls.hold_receive_of Filter.filter_pass_of Kick.clock_frame_of Kick.kick_of Readies.next_frame_of Shift.load_transmit_of State.initial Waiting.schedule_filter_of Hosts.outcome_of Rates.rates_hold Rates.lengths_hold Rates.monitor_below Rates.monitor_halves
-refused-wait = (refl, refl, refl, refl)
+refused_wait = (refl, refl, refl, refl)

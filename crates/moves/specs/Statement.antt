@@ -1,4 +1,4 @@
--- Definitions: document 02, (k), on runs before and after the system clock's start is moved up. The proof is `moved_runs_lem` in Proof.antt.
+-- Definitions: document 02, (k), on runs before and after the system clock's start is moved up. The proof is `moved_runs_lem` in proofs/MovedRuns.antt.
 use Rattle.std.specs.Prelude.{ℕ, ◌+◌, ◌≤◌, ◌<◌, ◌^◌, true, List, [], ◌∷◌, ◌≡◌}
 use Rattle.time.specs.declared.Time.{Time}
 use Rattle.time.specs.Time.{time_of}

@@ -1,5 +1,5 @@
 -- Definitions: the calls that a bench makes of its units, step by step (document 02, (g)). That the bench's own definition makes these is `states_after` in
--- CallLaws.antt.
+-- proofs/CallLaws.antt.
 use Rattle.std.specs.Prelude.{ℕ, ◌-◌, Bool, true, false, cond, not, ◌&&◌, List, leb, ltb, length}
 use Rattle.clocks.specs.declared.Clocks.{Clocks}
 use Rattle.time.specs.declared.Time.{Time}

@@ -1,5 +1,5 @@
 -- Definitions: document 02, (g), on extra visits of a bench's units: "Extra idle visits, neither counted nor written, change no answer line or state until another call
--- is refused." The proof is `extra_visits_lem` in ExtraProof.antt.
+-- is refused." The proof is `extra_visits_lem` in proofs/ExtraProof.antt.
 use Rattle.std.specs.Prelude.{ℕ, suc, ◌≤◌, Bool, true, false, cond, ◌||◌, List, [], ◌∷◌, ◌≡◌, eqb, set}
 use Rattle.clocks.specs.declared.Clocks.{Clocks}
 use Rattle.time.specs.declared.Time.{Time}

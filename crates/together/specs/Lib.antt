@@ -3,11 +3,5 @@ pub mod Runs
 pub mod SameTime
 pub mod Stages
 pub mod UnitLaws
-pub mod CallLaws
-pub mod StepsHold
-pub mod RunsProof
 pub mod ReportLaws
 pub mod Extra
-pub mod ExtraProof
-pub mod Fits
-pub mod Rows

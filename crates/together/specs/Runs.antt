@@ -1,4 +1,4 @@
--- Definitions: document 02, (g), on two peripherals of a bench, over the steps of the bench's own definition. The proof is `equal_on_bench_lem` in RunsProof.antt.
+-- Definitions: document 02, (g), on two peripherals of a bench, over the steps of the bench's own definition. The proof is `equal_on_bench_lem` in proofs/RunsProof.antt.
 use Rattle.std.specs.Prelude.{ℕ, ◌≤◌, ◌<◌, Bool, true, false, List, ◌≡◌, eqb}
 use Rattle.clocks.specs.declared.Clocks.{Clocks}
 use Rattle.hosts.specs.Calls.{Call, deadline}

@@ -1,2 +1,2 @@
-// No code: the statements on two peripherals of a bench and on extra visits, over the bench's own steps, and their proofs, are in specs/.
+// No code: the statements on two peripherals of a bench and on extra visits, over the bench's own steps, are in specs/, their proofs in proofs/.
 #![tactic(auto)]

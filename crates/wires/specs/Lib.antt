@@ -9,7 +9,3 @@ pub mod RuleLaws
 pub mod Edges
 pub mod Clocking
 pub mod Visits
-pub mod Passes
-pub mod FirstPass
-pub mod Proof
-pub mod Rows

@@ -1,4 +1,4 @@
--- Definitions: document 02, (g), on two peripherals that share a pair of wires. The proof is `equal_filtered_lem` in Proof.antt.
+-- Definitions: document 02, (g), on two peripherals that share a pair of wires. The proof is `equal_filtered_lem` in proofs/EqualFiltered.antt.
 use Rattle.std.specs.Prelude.{◌^◌, ◌<◌, List, ◌≡◌}
 use Rattle.bus.specs.declared.Levels.{Levels}
 use Rattle.clocks.specs.declared.Clocks.{Clocks}

@@ -21,7 +21,7 @@ use Rattle.bench.specs.Moments.{fresh_bench, state_at}
 use Rattle.together.specs.Calls.{doing_in, run_at, unit_in}
 use Rattle.together.specs.Runs.{EqualOnBench, Shares, is_between, is_reporting}
 use Rattle.together.specs.Stages.{FirstAt, Holds, LaterAt}
-use Rattle.together.specs.StepsHold.{none_marked, step_holds}
+use Rattle.together.proofs.StepsHold.{none_marked, step_holds}
 
 -- ## After any number of steps
 

@@ -41,7 +41,7 @@ use Rattle.iic.specs.Told.{Answer, refusal, of_byte}
 use Rattle.flags.specs.Invariant.{Bound, Ends, Holds, Keeps, Kept, UpToTdre, Within, bound}
 use Rattle.flags.specs.Masks.{decide, masked_missing, no_other_bits, only_these_bits, set_or, taken_out}
 use Rattle.flags.specs.StatusWrites.{BeforeAnyRead, ClearsOnlyShown, Flag, FrameToGo, Latest, Past, RaisesOnlyTdre, Ranges, ReachedStates, StatusWrites, ToGo, aas, adz, al, begin, is_set, is_status, latest_after, mask_of, nackf, next, past, rdrf, reached, showed, showing, shown, status_of, stop, tdre, tend, written}
-use Rattle.flags.specs.Timed.{fire_clock, fire_filter, fire_monitor, fire_setup, if_ends, kick, kick_on, left, read_data, schedule_filter, then_ends, turn_clock, turn_filter, turn_monitor, turn_setup, write_at_lem}
+use Rattle.flags.proofs.Timed.{fire_clock, fire_filter, fire_monitor, fire_setup, if_ends, kick, kick_on, left, read_data, schedule_filter, then_ends, turn_clock, turn_filter, turn_monitor, turn_setup, write_at_lem}
 
 -- ## `input_pins`, `set_gate`, `advance`
 

@@ -12,7 +12,7 @@ use Rattle.clocks.specs.declared.wait.Deadline.{Deadline}
 use Rattle.hosts.specs.Calls.{is_now, outcome_of}
 use Rattle.hosts.specs.Calls as call
 use Rattle.hosts.specs.Invariant.{Leaves}
-use Rattle.hosts.specs.Kept.{Ungated, waits_off}
+use Rattle.hosts.proofs.Kept.{Ungated, waits_off}
 use Rattle.hosts.specs.Left.{byte_refused, guarded_left, left, truth_refused}
 use Rattle.iic.specs.Answers.{guarded}
 use Rattle.registers.specs.Bits.{ICE}

@@ -41,10 +41,10 @@ use Rattle.bench.specs.Moments as Moments
 use Rattle.together.specs.Calls as Calls
 use Rattle.together.specs.Calls.{doing_in, run_at, unit_in}
 use Rattle.together.specs.Extra.{Move, moved_all, step, visit, watched}
-use Rattle.together.specs.ExtraProof.{extra_visits_lem}
-use Rattle.together.specs.Fits.{fits, fits_shares, visits_idle, visits_fit}
+use Rattle.together.proofs.ExtraProof.{extra_visits_lem}
+use Rattle.together.proofs.Fits.{fits, fits_shares, visits_idle, visits_fit}
 use Rattle.together.specs.Runs.{is_between}
-use Rattle.together.specs.RunsProof.{equal_on_bench_lem}
+use Rattle.together.proofs.RunsProof.{equal_on_bench_lem}
 
 -- a script line of the first moment
 abbrev line : ℕ → Verb → List ℕ

@@ -36,7 +36,7 @@ use Rattle.iic.specs.Told.{is_refusal}
 use Rattle.hosts.specs.Demand3.{Left, played, left, left_of, calls, IsKth, before, any_refused, TwoHostsAgree}
 use Rattle.hosts.specs.Invariant.{Good}
 use Rattle.iic.specs.Settled.{settled}
-use Rattle.hosts.specs.Kept.{good_after}
+use Rattle.hosts.proofs.Kept.{good_after}
 use Rattle.iic.specs.SettledLaws.{settled_kick}
 use Rattle.time.specs.Truths.{and_left, and_right, or_left, or_right, not_so}
 

@@ -8,8 +8,8 @@ use Rattle.iic.specs.State.{default_iic}
 use Rattle.iic.specs.declared.Iic.{Iic}
 use Rattle.time.specs.declared.Time.{Time}
 use Rattle.rates.specs.Rates.{default_rates}
-use Rattle.wires.specs.FirstPass.{first_sound}
-use Rattle.wires.specs.Passes.{pass_sound}
+use Rattle.wires.proofs.FirstPass.{first_sound}
+use Rattle.wires.proofs.Passes.{pass_sound}
 use Rattle.wires.specs.RuleLaws.{default_spaced}
 use Rattle.wires.specs.Rules.{Alike}
 use Rattle.wires.specs.Statement.{EqualFiltered, InWord, Together, first, next}

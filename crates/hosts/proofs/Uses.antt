@@ -30,7 +30,7 @@ use Rattle.hosts.specs.Calls as Hosts
 use Rattle.hosts.specs.Calls.{read, write, Made, by_value, lent_read, lent_write, call_of, Host, after, idle}
 use Rattle.hosts.specs.Demand3 as Demand3
 use Rattle.hosts.specs.Demand3.{Left, played, left, left_of, IsKth}
-use Rattle.hosts.specs.Agree.{two_hosts_agree_lem}
+use Rattle.hosts.proofs.Agree.{two_hosts_agree_lem}
 use Rattle.hosts.specs.Rows.{still, plain, visited}
 
 -- ## Lent calls

@@ -53,7 +53,7 @@ use Rattle.time.specs.Truths.{by_cases, either, if_false, if_true}
 use Rattle.time.proofs.NextLaws.{same_of}
 use Rattle.wires.specs.Held.{halve, prepare}
 use Rattle.wires.specs.Kicks.{schedule_rests, then_kick}
-use Rattle.wires.specs.Passes.{report_sound}
+use Rattle.wires.proofs.Passes.{report_sound}
 use Rattle.wires.specs.Registers.{read_keeps, write_keeps}
 use Rattle.wires.specs.RuleLaws.{clock_later, default_spaced, first_clock_lem, first_wait_lem, monitor_later, no_wait_ahead, setup_later, starting_lawful}
 use Rattle.wires.specs.Rules.{FirstClock, FirstHalf, FirstSetup, FirstState, FirstWait, Keeps, Lawful, Monitored, Sound, starting}

@@ -26,7 +26,7 @@ use Rattle.time.specs.Clock as Clock
 use Rattle.waits.specs.AheadLaws.{never_not_at}
 use Rattle.waits.specs.Ends as Ends
 use Rattle.rates.specs.Rates as Rates
-use Rattle.wires.specs.Proof.{equal_filtered_lem}
+use Rattle.wires.proofs.EqualFiltered.{equal_filtered_lem}
 use Rattle.wires.specs.Statement.{Together, first, next}
 use Rattle.wires.specs.Units.{First, Line, Next, gate, passed, turn, write}
 

@@ -24,8 +24,8 @@ use Rattle.lines.specs.declared.Last.TheVariants.{First, After}
 use Rattle.answers.specs.declared.Shown.TheVariants.{Nobody}
 use Rattle.lines.specs.declared.Verb.{Verb}
 use Rattle.lines.specs.declared.Verb.TheVariants as verb
-use Rattle.wires.specs.FirstPass.{default_keeps, line_keeps, on_sound, unnamed}
-use Rattle.wires.specs.Passes.{line_sound, report_sound, visited_sound}
+use Rattle.wires.proofs.FirstPass.{default_keeps, line_keeps, on_sound, unnamed}
+use Rattle.wires.proofs.Passes.{line_sound, report_sound, visited_sound}
 use Rattle.wires.specs.RuleLaws.{default_spaced}
 use Rattle.wires.specs.Rules.{Sound}
 use Rattle.wires.specs.Statement.{InWord}
@@ -45,7 +45,7 @@ use Rattle.bench.specs.Steps.{goes, goes_to, look_of, play_now_of, play_of, repo
 use Rattle.bench.specs.Turns.{passed_by, play_line_of, played_by, report_of, reported_by, unplayed_by, shown_by, visit_due_of, visit_of, visited_by}
 use Rattle.units.specs.Units.{is_named, is_present}
 use Rattle.bench.specs.Moments.{mark_of, moment_of, state_at, state_in}
-use Rattle.together.specs.CallLaws.{asks_now, made_line, made_report, made_visit}
+use Rattle.together.proofs.CallLaws.{asks_now, made_line, made_report, made_visit}
 use Rattle.together.specs.Calls.{asks, call_from, doing_in, goes_on, line_in, made, one, unit_in}
 use Rattle.together.specs.Runs.{is_reporting}
 use Rattle.together.specs.SameTime.{sound_same, starting_same}

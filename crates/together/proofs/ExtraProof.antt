@@ -11,20 +11,20 @@ use Rattle.clocks.specs.declared.Clocks.{Clocks}
 use Rattle.time.specs.Truths.{or_left, or_right}
 use Rattle.time.specs.declared.Time.{Time}
 use Rattle.rates.specs.Rates.{default_rates}
-use Rattle.hosts.specs.Agree.{good_start, idle_same}
+use Rattle.hosts.proofs.Agree.{good_start, idle_same}
 use Rattle.hosts.specs.Calls as hosts
 use Rattle.hosts.specs.Calls.{Host, advance, outcome_of}
 use Rattle.hosts.specs.Invariant.{Good}
-use Rattle.hosts.specs.Kept.{good_after}
+use Rattle.hosts.proofs.Kept.{good_after}
 use Rattle.iic.specs.State.{default_iic}
 use Rattle.iic.specs.Told.{is_refusal}
 use Rattle.iic.specs.declared.Iic.{Iic}
 use Rattle.bench.specs.Bench.{Run, after, next, start}
 use Rattle.bench.specs.Moments.{fresh_bench, state_in}
-use Rattle.together.specs.CallLaws.{Below, made_below, states_after, states_by}
+use Rattle.together.proofs.CallLaws.{Below, made_below, states_after, states_by}
 use Rattle.together.specs.Calls.{Made, made, none, one, unit_in}
 use Rattle.together.specs.Extra.{AllIdle, ExtraVisits, Idle, Move, Past, Watched, host_in, moved, moved_all, past_by, past_visit, step, steps, visit, visited_run, watched}
-use Rattle.together.specs.RunsProof.{fresh_unit}
+use Rattle.together.proofs.RunsProof.{fresh_unit}
 
 -- four states, and a unit of which no call was refused is good
 pub record AllGood (w : Watched) : Type 0 where

@@ -57,7 +57,7 @@ use Rattle.registers.specs.declared.Register.TheVariants.{ICCR1, ICCR2, ICDRR, I
 use Rattle.iic.specs.declared.Stepped.{Stepped}
 use Rattle.flags.specs.Invariant.{Bound, Ends, Fact, Keeps, Kept, Within}
 use Rattle.flags.specs.Masks.{masked_set}
-use Rattle.flags.specs.Untimed.{any_status, begun_kept, bus_kept, clocked_kept, continued_kept, control_kept, end_kept, fall_data_kept, fall_idle_kept, fall_taken_kept, follow_kept, hold_kept, load_kept, mode_kept, next_kept, pull_kept, raised_kept, reset_kept, rising_kept, show_kept, stop_kept}
+use Rattle.flags.proofs.Untimed.{any_status, begun_kept, bus_kept, clocked_kept, continued_kept, control_kept, end_kept, fall_data_kept, fall_idle_kept, fall_taken_kept, follow_kept, hold_kept, load_kept, mode_kept, next_kept, pull_kept, raised_kept, reset_kept, rising_kept, show_kept, stop_kept}
 
 -- ## How steps end
 

@@ -17,9 +17,9 @@ use Rattle.clocks.specs.SystemLaws.{system_free}
 use Rattle.iic.specs.State.{default_iic, initial}
 use Rattle.iic.specs.declared.Iic.{Iic}
 use Rattle.hosts.specs.Calls.{Call}
-use Rattle.moves.specs.Agree.{alike_agree_lem}
+use Rattle.moves.proofs.Agree.{alike_agree_lem}
 use Rattle.moves.specs.Moving.{moved_alike}
-use Rattle.moves.specs.Own.{own_ahead}
+use Rattle.moves.proofs.Own.{own_ahead}
 use Rattle.moves.specs.Sets.{set_alike}
 use Rattle.moves.specs.Statement.{AllFrom, Moved, MovedRuns, NoneBefore, new_start, outcomes}
 

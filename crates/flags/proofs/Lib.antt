@@ -1,0 +1,3 @@
+pub mod Untimed
+pub mod Timed
+pub mod Runs

@@ -1,0 +1,4 @@
+pub mod Kept
+pub mod Agree
+pub mod Uses
+pub mod PastRefusal

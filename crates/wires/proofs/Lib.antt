@@ -1,0 +1,4 @@
+pub mod Passes
+pub mod FirstPass
+pub mod EqualFiltered
+pub mod Rows
