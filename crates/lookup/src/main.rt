@@ -7,7 +7,9 @@ ghost use Rattle.std.specs.Prelude.{◌≤◌, length};
 use lines::reading::digit;
 use map::{Checked, Found, Map, Unit};
 use std::env::FillError;
-use std::io::Read;
+use std::io;
+use std::io::{ErrorKind, Read};
+use std::process::ExitCode;
 use std::rt::Env;
 
 // What an argument says.
@@ -92,53 +94,52 @@ fn refuse(rt: &impl Eprint, refusal: u8, at: u16) {
     };
 }
 
-fn show(rt: &impl Print, unit: Unit) -> bool {
-    let printed = match unit {
+fn show(rt: &impl Print, unit: Unit) -> io::Result<()> {
+    match unit {
         Unit::Nobody => println!(rt; "-"),
         Unit::Number(n) => println!(rt; "{n}"),
-    };
-    printed.is_ok()
+    }
 }
 
-// Whether the unit of an address could be printed.
-fn answer(rt: &(impl Print + Eprint), map: Map, address: u16) -> bool {
+// Prints the unit of an address.
+fn answer(rt: &(impl Print + Eprint), map: Map, address: u16) -> io::Result<()> {
     let found = map.lookup(address);
     match found {
         Found::At(unit) => show(rt, unit),
         Found::Refused(refusal, at) => {
             refuse(rt, refusal, at);
-            true
+            Ok(())
         }
     }
 }
 
-fn answer_at(rt: &(impl Env + Print + Eprint), map: Map, at: usize) -> bool {
+fn answer_at(rt: &(impl Env + Print + Eprint), map: Map, at: usize) -> io::Result<()> {
     let word = word_at(rt, at);
     match word {
         Asked::At(address) => answer(rt, map, address),
-        Asked::Other => true,
+        Asked::Other => Ok(()),
     }
 }
 
-fn answer_all(rt: &(impl Env + Print + Eprint), map: Map, count: usize) {
+fn answer_all(rt: &(impl Env + Print + Eprint), map: Map, count: usize) -> io::Result<()> {
     let mut i = 1usize;
     while i < count {
-        let fine = answer_at(rt, map, i);
-        if !fine {
-            say(rt, "standard output can't be written\n");
-            return;
-        }
+        answer_at(rt, map, i)?;
         i += 1;
     }
+    Ok(())
 }
 
-fn look_up(rt: &(impl Env + Print + Eprint), text: &[u8], count: usize) {
+fn look_up(rt: &(impl Env + Print + Eprint), text: &[u8], count: usize) -> io::Result<()> {
     let loaded = map::reading::load(text);
     let map = loaded.map;
     let checked = loaded.checked;
     match checked {
         Checked::Accepted => answer_all(rt, map, count),
-        Checked::Refused(refusal, at) => refuse(rt, refusal, at),
+        Checked::Refused(refusal, at) => {
+            refuse(rt, refusal, at);
+            Ok(())
+        }
     }
 }
 
@@ -157,12 +158,22 @@ fn read_full(reader: &mut impl Read, buf: &mut [u8]) -> usize
     done
 }
 
+// Says that standard output can't be written, or nothing where nobody reads on, and gives the exit status: then 141, as a shell tells of a program that
+// a closed pipe ends.
+fn unwritten(rt: &impl Eprint, error: io::Error) -> ExitCode {
+    if error.kind() == ErrorKind::BrokenPipe {
+        return ExitCode::from(141);
+    }
+    say(rt, "standard output can't be written\n");
+    ExitCode::SUCCESS
+}
+
 // The first 780 bytes of a text decide what is read of it (`cut_is_same` in crates/map).
-fn main(rt: HostRuntime) {
+fn main(rt: HostRuntime) -> ExitCode {
     let count = arg_count(&rt);
     if !all_addresses(&rt, count) {
         say(&rt, "ADDRESS is four lower-case hexadecimal digits\n");
-        return;
+        return ExitCode::SUCCESS;
     }
     let mut reader = rt.reader();
     let mut room = [0u8; 65536];
@@ -170,7 +181,10 @@ fn main(rt: HostRuntime) {
     let mut rest = [0u8; 4096];
     if reader.read(&mut rest).is_err() {
         say(&rt, "standard input can't be read\n");
-        return;
+        return ExitCode::SUCCESS;
     }
-    look_up(&rt, &room[0..n], count);
+    match look_up(&rt, &room[0..n], count) {
+        Ok(()) => ExitCode::SUCCESS,
+        Err(error) => unwritten(&rt, error),
+    }
 }

@@ -6,38 +6,35 @@ ghost use Rattle.std.specs.Prelude.{◌≡◌, ◌-◌, ◌≤◌, min, length, 
 
 use answers::Output;
 use player::Player;
-use std::io::Read;
+use std::io;
+use std::io::{ErrorKind, Read};
+use std::process::ExitCode;
 use std::rt::Env;
 
-// The bytes of the part that were played, the player after them, and whether all that they gave was written.
+// The bytes of the part that were played, the player after them, and whether all that they gave was written, or why not.
 #[derive(Clone, Copy)]
 struct Played {
     pub used: usize,
-    pub fine: bool,
+    pub written: io::Result<()>,
     pub player: Player,
 }
 
-// Whether more is to be read, the bytes held of a line that was begun, and the player.
+// Whether more is to be read, or why nothing more is written, the bytes held of a line that was begun, and the player.
 #[derive(Clone, Copy)]
 struct Turn {
-    pub more: bool,
+    pub more: io::Result<bool>,
     pub have: usize,
     pub player: Player,
 }
 
-// Writes all of it, or says on standard error that it can't.
-fn write_out(rt: &(impl Print + Eprint), text: &[u8]) -> bool {
-    let fine = rt.write_all(text).is_ok();
-    if fine {
-        return true;
-    }
-    let _ = eprintln!(rt; "play: standard output can't be written");
-    false
+// Writes all of it.
+fn write_out(rt: &impl Print, text: &[u8]) -> io::Result<()> {
+    rt.write_all(text)
 }
 
 // Plays what the output has room for and writes it.
 fn play_some(
-    rt: &(impl Print + Eprint),
+    rt: &impl Print,
     player: Player,
     wanted: Output,
     part: &[u8],
@@ -48,18 +45,18 @@ fn play_some(
 {
     let p = player.play_lines(wanted, part, ended, output);
     let written = p.written;
-    let fine = write_out(rt, &output[0..written]);
+    let done = write_out(rt, &output[0..written]);
     let next = p.player;
     Played {
         used: p.used,
-        fine,
+        written: done,
         player: next,
     }
 }
 
 // Plays the whole lines of a part, the output emptied as often as it is full.
 fn play_part(
-    rt: &(impl Print + Eprint),
+    rt: &impl Print,
     player: Player,
     wanted: Output,
     part: &[u8],
@@ -75,10 +72,10 @@ fn play_part(
         let next = p.player;
         last = next;
         used += p.used;
-        if !p.fine {
+        if p.written.is_err() {
             return Played {
                 used,
-                fine: false,
+                written: p.written,
                 player: last,
             };
         }
@@ -88,7 +85,7 @@ fn play_part(
     }
     Played {
         used,
-        fine: true,
+        written: Ok(()),
         player: last,
     }
 }
@@ -129,7 +126,7 @@ fn next_turn(
     let Ok(got) = reader.read(&mut input[have..]) else {
         let _ = eprintln!(rt; "play: standard input can't be read");
         return Turn {
-            more: false,
+            more: Ok(false),
             have: 0,
             player,
         };
@@ -139,8 +136,9 @@ fn next_turn(
     let p = play_part(rt, player, wanted, &input[0..n], ended, output);
     let next = p.player;
     let kept = keep(input, p.used, n);
+    let more = !ended & (next.lines < 1000000);
     Turn {
-        more: p.fine & !ended & (next.lines < 1000000),
+        more: p.written.map(|()| more),
         have: kept,
         player: next,
     }
@@ -152,7 +150,7 @@ fn run(
     wanted: Output,
     input: &mut [u8],
     output: &mut [u8],
-)
+) -> io::Result<()>
     requires { 65 ≤ length input.old }
 {
     let mut player = Player::new();
@@ -161,13 +159,14 @@ fn run(
     while 0 < turns {
         turns -= 1;
         let t = next_turn(rt, reader, player, wanted, input, have, output);
-        if !t.more {
-            return;
+        if !t.more? {
+            return Ok(());
         }
         let next = t.player;
         player = next;
         have = t.have;
     }
+    Ok(())
 }
 
 // Whether a word is that of four letters.
@@ -195,10 +194,10 @@ fn wanted(rt: &impl Env) -> Output {
 }
 
 // What stands before the first line's text: of a VCD file the unit of time, and of each signal the byte that stands for it and its name.
-fn begin(rt: &(impl Print + Eprint), wanted: Output) -> bool {
+fn begin(rt: &impl Print, wanted: Output) -> io::Result<()> {
     match wanted {
-        Output::Answers => true,
-        Output::Reports => true,
+        Output::Answers => Ok(()),
+        Output::Reports => Ok(()),
         Output::Waves => write_out(
             rt,
             b"$timescale 1 ns $end
@@ -225,14 +224,28 @@ $enddefinitions $end
     }
 }
 
-fn main(rt: HostRuntime) {
-    let wanted = wanted(&rt);
-    let begun = begin(&rt, wanted);
-    if !begun {
-        return;
-    }
+fn play(rt: &(impl Env + Input + Print + Eprint)) -> io::Result<()> {
+    let wanted = wanted(rt);
+    begin(rt, wanted)?;
     let mut reader = rt.reader();
     let mut input = [0u8; 65536];
     let mut output = [0u8; 65536];
-    run(&rt, &mut reader, wanted, &mut input, &mut output);
+    run(rt, &mut reader, wanted, &mut input, &mut output)
+}
+
+// Says that standard output can't be written, or nothing where nobody reads on, and gives the exit status: then 141, as a shell tells of a program that
+// a closed pipe ends.
+fn unwritten(rt: &impl Eprint, error: io::Error) -> ExitCode {
+    if error.kind() == ErrorKind::BrokenPipe {
+        return ExitCode::from(141);
+    }
+    let _ = eprintln!(rt; "play: standard output can't be written");
+    ExitCode::SUCCESS
+}
+
+fn main(rt: HostRuntime) -> ExitCode {
+    match play(&rt) {
+        Ok(()) => ExitCode::SUCCESS,
+        Err(error) => unwritten(&rt, error),
+    }
 }

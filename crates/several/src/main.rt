@@ -6,7 +6,9 @@ ghost use Rattle.std.specs.Prelude.{◌≡◌, ◌≤◌, length};
 
 use answers::trace_clocks;
 use std::env::FillError;
-use std::io::Read;
+use std::io;
+use std::io::{ErrorKind, Read};
+use std::process::ExitCode;
 use std::rt::Env;
 
 fn say(rt: &impl Eprint, text: &str) {
@@ -35,16 +37,13 @@ fn room() -> [u8; 262144]
     [0; 262144]
 }
 
-fn play(rt: &(impl Print + Eprint), count: usize, script: &[u8]) {
+fn play(rt: &(impl Print + Eprint), count: usize, script: &[u8]) -> io::Result<()> {
     let mut answers = room();
     let done = bench::play(count, trace_clocks(), script, &mut answers);
     let written = done.written;
-    let fine = rt.write_all(&answers[0..written]).is_ok();
-    if fine {
-        tell(rt, done.refusal, done.lines);
-    } else {
-        say(rt, "standard output can't be written\n");
-    }
+    rt.write_all(&answers[0..written])?;
+    tell(rt, done.refusal, done.lines);
+    Ok(())
 }
 
 // Reads until `buf` is full, the input ends or a read fails, and gives how many bytes it put at the start of `buf`.
@@ -63,16 +62,20 @@ fn read_full(reader: &mut impl Read, buf: &mut [u8]) -> usize
 }
 
 // Plays what standard input has, where there is room for all of it.
-fn play_input(rt: &(impl Input + Print + Eprint), count: usize) {
+fn play_input(rt: &(impl Input + Print + Eprint), count: usize) -> io::Result<()> {
     let mut reader = rt.reader();
     let mut script = room();
     let used = read_full(&mut reader, &mut script);
     let mut rest = [0u8; 4096];
-    match reader.read(&mut rest) {
-        Err(_) => say(rt, "standard input can't be read\n"),
-        Ok(0) => play(rt, count, &script[0..used]),
-        Ok(_) => say(rt, "the script is longer than 262144 bytes\n"),
+    let Ok(more) = reader.read(&mut rest) else {
+        say(rt, "standard input can't be read\n");
+        return Ok(());
+    };
+    if 0 < more {
+        say(rt, "the script is longer than 262144 bytes\n");
+        return Ok(());
     }
+    play(rt, count, &script[0..used])
 }
 
 // Whether there is an argument at a place.
@@ -85,17 +88,32 @@ fn is_given(rt: &impl Env, at: usize) -> bool {
     }
 }
 
-fn main(rt: HostRuntime) {
+// Says that standard output can't be written, or nothing where nobody reads on, and gives the exit status: then 141, as a shell tells of a program that
+// a closed pipe ends.
+fn unwritten(rt: &impl Eprint, error: io::Error) -> ExitCode {
+    if error.kind() == ErrorKind::BrokenPipe {
+        return ExitCode::from(141);
+    }
+    say(rt, "standard output can't be written\n");
+    ExitCode::SUCCESS
+}
+
+fn main(rt: HostRuntime) -> ExitCode {
     let mut word = [0u8; 4096];
     let n = rt.arg(1, &mut word).unwrap_or(0);
     let given = (n == 1) & !is_given(&rt, 2);
     let count = lines::reading::digit(word[0]);
-    if given & (count < 10) {
-        play_input(&rt, count as usize);
+    let played = if given & (count < 10) {
+        play_input(&rt, count as usize)
     } else {
         say(
             &rt,
             "the number of peripherals, a decimal digit, is wanted\n",
         );
+        Ok(())
+    };
+    match played {
+        Ok(()) => ExitCode::SUCCESS,
+        Err(error) => unwritten(&rt, error),
     }
 }

@@ -6,7 +6,9 @@ ghost use Rattle.std.specs.Prelude.{◌≤◌, length};
 
 use search::Found;
 use std::env::FillError;
-use std::io::Read;
+use std::io;
+use std::io::{ErrorKind, Read};
+use std::process::ExitCode;
 use std::rt::Env;
 
 // What an argument says.
@@ -130,10 +132,8 @@ fn read_trace(reader: &mut impl Read, trace: &mut [u8]) -> Trace
     }
 }
 
-fn show(rt: &(impl Print + Eprint), first: usize, length: usize) {
-    if println!(rt; "{first}\t{length}").is_err() {
-        say(rt, "standard output can't be written\n");
-    }
+fn show(rt: &impl Print, first: usize, length: usize) -> io::Result<()> {
+    println!(rt; "{first}\t{length}")
 }
 
 fn refuse(rt: &impl Eprint, refusal: u8, number: u8, limit: u16) {
@@ -144,25 +144,29 @@ fn refuse(rt: &impl Eprint, refusal: u8, number: u8, limit: u16) {
     };
 }
 
-fn answer(rt: &(impl Print + Eprint), trace: &[u8], number: u8, limit: u16) {
+fn answer(rt: &(impl Print + Eprint), trace: &[u8], number: u8, limit: u16) -> io::Result<()> {
     let done = search::shortest(trace, number, limit);
     let found = done.found;
     match found {
         Found::At(first, length) => show(rt, first, length),
-        Found::Refused(refusal) => refuse(rt, refusal, number, limit),
+        Found::Refused(refusal) => {
+            refuse(rt, refusal, number, limit);
+            Ok(())
+        }
     }
 }
 
 // There is room for 992 lines, of at most 66 bytes each.
-fn search_for(rt: &(impl Input + Print + Eprint), number: u8, limit: u16) {
+fn search_for(rt: &(impl Input + Print + Eprint), number: u8, limit: u16) -> io::Result<()> {
     let mut reader = rt.reader();
     let mut room = [0u8; 65536];
     let read = read_trace(&mut reader, &mut room);
     let used = read.used;
     if read.fine {
-        answer(rt, &room[0..used], number, limit);
+        answer(rt, &room[0..used], number, limit)
     } else {
         say(rt, "standard input can't be read\n");
+        Ok(())
     }
 }
 
@@ -193,7 +197,7 @@ fn is_given(rt: &impl Env, at: usize) -> bool {
 }
 
 // The search with that limit, for the number that is the argument at that place and the last.
-fn search_by(rt: &(impl Env + Input + Print + Eprint), at: usize, limit: u16)
+fn search_by(rt: &(impl Env + Input + Print + Eprint), at: usize, limit: u16) -> io::Result<()>
     requires { at ≤ 2 }
 {
     let mut word = [0u8; 4096];
@@ -201,21 +205,38 @@ fn search_by(rt: &(impl Env + Input + Print + Eprint), at: usize, limit: u16)
     let asked = number_of(&word[..n]);
     if !is_given(rt, at) | is_given(rt, at + 1) {
         say(rt, "[--leaflet] NUMBER is wanted\n");
-        return;
+        return Ok(());
     }
     match asked {
         Asked::Number(number) => search_for(rt, number, limit),
-        Asked::Other => say(rt, "NUMBER is a decimal number from 0 to 255\n"),
+        Asked::Other => {
+            say(rt, "NUMBER is a decimal number from 0 to 255\n");
+            Ok(())
+        }
     }
 }
 
-fn main(rt: HostRuntime) {
+// Says that standard output can't be written, or nothing where nobody reads on, and gives the exit status: then 141, as a shell tells of a program that
+// a closed pipe ends.
+fn unwritten(rt: &impl Eprint, error: io::Error) -> ExitCode {
+    if error.kind() == ErrorKind::BrokenPipe {
+        return ExitCode::from(141);
+    }
+    say(rt, "standard output can't be written\n");
+    ExitCode::SUCCESS
+}
+
+fn main(rt: HostRuntime) -> ExitCode {
     let mut word = [0u8; 4096];
     let n = rt.arg(1, &mut word).unwrap_or(0);
     let leaflet = is_leaflet(&word[..n]);
-    if leaflet {
-        search_by(&rt, 2, 32);
+    let shown = if leaflet {
+        search_by(&rt, 2, 32)
     } else {
-        search_by(&rt, 1, 256);
+        search_by(&rt, 1, 256)
+    };
+    match shown {
+        Ok(()) => ExitCode::SUCCESS,
+        Err(error) => unwritten(&rt, error),
     }
 }
