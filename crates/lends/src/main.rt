@@ -46,58 +46,54 @@ fn dead_set() -> Clocks {
     Clocks::new(at(0), none).clocks
 }
 
-fn text(bytes: &[u8]) {
-    io::write_all(1, bytes);
+fn text(rt: &impl Print, bytes: &[u8]) {
+    let _ = rt.write_all(bytes);
 }
 
-fn byte(n: u8) {
-    io::print_hex(1, n as u64, 2);
-    text(b" ");
+fn byte(rt: &impl Print, n: u8) {
+    let _ = print!(rt; "{n:02x} ");
 }
 
-fn refusal(n: u8) {
-    text(b"refused ");
-    io::print_decimal(1, n as u64);
-    text(b" ");
+fn refusal(rt: &impl Print, n: u8) {
+    let _ = print!(rt; "refused {n} ");
 }
 
-fn end(e: Ended) {
+fn end(rt: &impl Print, e: Ended) {
     match e {
-        Ended::Finished => text(b"done "),
-        Ended::Refused(n) => refusal(n),
+        Ended::Finished => text(rt, b"done "),
+        Ended::Refused(n) => refusal(rt, n),
     }
 }
 
-fn answer(a: Byte) {
+fn answer(rt: &impl Print, a: Byte) {
     match a {
-        Byte::Is(n) => byte(n),
-        Byte::Refused(n) => refusal(n),
+        Byte::Is(n) => byte(rt, n),
+        Byte::Refused(n) => refusal(rt, n),
     }
 }
 
-fn levels(l: Levels) {
-    io::print_decimal(1, l.scl as u64);
-    io::print_decimal(1, l.sda as u64);
-    text(b" ");
+fn levels(rt: &impl Print, l: Levels) {
+    let _ = print!(rt; "{}{} ", u8::from(l.scl), u8::from(l.sda));
 }
 
-fn pins(s: Iic) {
+fn pins(rt: &impl Print, s: Iic) {
     match s.pins() {
-        Pins::NoPins => text(b"- "),
-        Pins::Driven(l) => levels(l),
+        Pins::NoPins => text(rt, b"- "),
+        Pins::Driven(l) => levels(rt, l),
     }
 }
 
-fn verdict(same: bool) {
+fn verdict(rt: &impl Print, same: bool) {
     if same {
-        text(b"as by value\n");
+        text(rt, b"as by value\n");
     } else {
-        text(b"NOT as by value\n");
+        text(rt, b"NOT as by value\n");
     }
 }
 
 // A write, and a read at the time after it.
 fn pair(
+    rt: &impl Print,
     h: Hosts,
     address: u16,
     value: u8,
@@ -115,9 +111,10 @@ fn pair(
     let valued_answer = was.answer;
     let lent = both.state;
     let valued = was.state;
-    end(lent_end);
-    answer(lent_answer);
+    end(rt, lent_end);
+    answer(rt, lent_answer);
     verdict(
+        rt,
         same_ends(lent_end, valued_end)
             & same_bytes(lent_answer, valued_answer)
             & same_states(lent, valued),
@@ -125,24 +122,32 @@ fn pair(
     Hosts { lent, valued }
 }
 
-fn step(h: Hosts, address: u16, value: u8, fraction: u32, source: u16, k: Clocks) -> Hosts {
+fn step(
+    rt: &impl Print,
+    h: Hosts,
+    address: u16,
+    value: u8,
+    fraction: u32,
+    source: u16,
+    k: Clocks,
+) -> Hosts {
     let n = fraction as u64;
-    pair(h, address, value, at(n), source, at(n + 1), k)
+    pair(rt, h, address, value, at(n), source, at(n + 1), k)
 }
 
 // Four registers from a first one on.
-fn four(s: Iic, first: u16) {
-    byte(s.peek(first));
-    byte(s.peek(first | 1));
-    byte(s.peek(first | 2));
-    byte(s.peek(first | 3));
+fn four(rt: &impl Print, s: Iic, first: u16) {
+    byte(rt, s.peek(first));
+    byte(rt, s.peek(first | 1));
+    byte(rt, s.peek(first | 2));
+    byte(rt, s.peek(first | 3));
 }
 
-fn finish(h: Hosts) {
-    four(h.lent, 0);
-    four(h.lent, 4);
-    pins(h.lent);
-    verdict(same_states(h.lent, h.valued));
+fn finish(rt: &impl Print, h: Hosts) {
+    four(rt, h.lent, 0);
+    four(rt, h.lent, 4);
+    pins(rt, h.lent);
+    verdict(rt, same_states(h.lent, h.valued));
 }
 
 fn started(s: Iic) -> Hosts {
@@ -150,47 +155,54 @@ fn started(s: Iic) -> Hosts {
 }
 
 // Document 01: write 0 ← 10 gives the status 80; written 00 it stays 80; read and written 00 it is 00.
-fn status(k: Clocks) {
-    let h = step(started(Iic::new()), 0, 0x10, 1, 5, k);
-    let h = step(h, 4, 0x00, 3, 4, k);
-    finish(step(h, 4, 0x00, 5, 4, k));
+fn status(rt: &impl Print, k: Clocks) {
+    let h = step(rt, started(Iic::new()), 0, 0x10, 1, 5, k);
+    let h = step(rt, h, 4, 0x00, 3, 4, k);
+    finish(rt, step(rt, h, 4, 0x00, 5, 4, k));
 }
 
 // Document 01: write 3 ← ff reads fd; write 2 ← ff reads f8; write 2 ← 07 reads 3f; write 2 ← 80, write 6 ← 01: 6 reads 80.
-fn registers(k: Clocks) {
-    finish(step(started(Iic::new()), 3, 0xff, 1, 3, k));
-    finish(step(started(Iic::new()), 2, 0xff, 1, 2, k));
-    finish(step(started(Iic::new()), 2, 0x07, 1, 2, k));
-    finish(step(
-        step(started(Iic::new()), 2, 0x80, 1, 5, k),
-        6,
-        0x01,
-        3,
-        6,
-        k,
-    ));
+fn registers(rt: &impl Print, k: Clocks) {
+    finish(rt, step(rt, started(Iic::new()), 3, 0xff, 1, 3, k));
+    finish(rt, step(rt, started(Iic::new()), 2, 0xff, 1, 2, k));
+    finish(rt, step(rt, started(Iic::new()), 2, 0x07, 1, 2, k));
+    finish(
+        rt,
+        step(
+            rt,
+            step(rt, started(Iic::new()), 2, 0x80, 1, 5, k),
+            6,
+            0x01,
+            3,
+            6,
+            k,
+        ),
+    );
 }
 
 // Document 01's trace: with the gate on, write 0 ← b0, read 4: 80; write 1 ← 90, read 1: 75, and SCL is driven low.
-fn trace(k: Clocks) {
+fn trace(rt: &impl Print, k: Clocks) {
     let h = started(Iic::new().set_gate(true, at(1), k).state);
-    let h = step(h, 0, 0xb0, 2, 4, k);
-    finish(step(h, 1, 0x90, 4, 1, k));
+    let h = step(rt, h, 0, 0xb0, 2, 4, k);
+    finish(rt, step(rt, h, 1, 0x90, 4, 1, k));
 }
 
 // A refused write keeps what it did: the filter's wait ends past the last time, and control is 80 all the same.
-fn refused_late(k: Clocks) {
+fn refused_late(rt: &impl Print, k: Clocks) {
     let s = Iic::new().set_gate(true, at(1), k).state;
     let s = s.input_pins(false, true, at(2), k).state;
-    finish(pair(started(s), 0, 0x80, last_time(), 0, last_time(), k));
+    finish(
+        rt,
+        pair(rt, started(s), 0, 0x80, last_time(), 0, last_time(), k),
+    );
 }
 
 // Refusals 1 and 9 leave the state as it was.
-fn refused_first(k: Clocks) {
+fn refused_first(rt: &impl Print, k: Clocks) {
     let mut s = Iic::new();
-    finish(step(started(s), 0, 0x80, 1, 4, dead_set()));
+    finish(rt, step(rt, started(s), 0, 0x80, 1, 4, dead_set()));
     s.registers.count = 9;
-    finish(step(started(s), 0, 0x80, 1, 4, k));
+    finish(rt, step(rt, started(s), 0, 0x80, 1, 4, k));
 }
 
 // The default with SCL held low.
@@ -199,18 +211,24 @@ fn held(hold: Hold) -> Iic {
 }
 
 // A write of ICDRT, then a read of ICDRR, that would release SCL past the last time: refused 7 once, since the hold is gone.
-fn refused_once(k: Clocks) {
+fn refused_once(rt: &impl Print, k: Clocks) {
     let t = last_time();
-    finish(pair(started(held(Hold::Transmit)), 6, 0x55, t, 7, t, k));
-    finish(pair(started(held(Hold::Receive)), 3, 0x00, t, 7, t, k));
+    finish(
+        rt,
+        pair(rt, started(held(Hold::Transmit)), 6, 0x55, t, 7, t, k),
+    );
+    finish(
+        rt,
+        pair(rt, started(held(Hold::Receive)), 3, 0x00, t, 7, t, k),
+    );
 }
 
-fn main() {
+fn main(rt: HostRuntime) {
     let k = clock_set();
-    status(k);
-    registers(k);
-    trace(k);
-    refused_late(k);
-    refused_once(k);
-    refused_first(k);
+    status(&rt, k);
+    registers(&rt, k);
+    trace(&rt, k);
+    refused_late(&rt, k);
+    refused_once(&rt, k);
+    refused_first(&rt, k);
 }

@@ -2,8 +2,15 @@
 // is refused, with the line or the lowest address.
 #![tactic(auto)]
 
+ghost use Rattle.std.specs.Prelude.{◌≤◌, length};
+
 use lines::reading::digit;
 use map::{Checked, Found, Map, Unit};
+use std::env::FillError;
+use std::io;
+use std::io::{ErrorKind, Read};
+use std::process::ExitCode;
+use std::rt::Env;
 
 // What an argument says.
 #[derive(Clone, Copy)]
@@ -12,9 +19,8 @@ enum Asked {
     Other,
 }
 
-fn say(text: &[u8]) {
-    io::write_all(2, b"map: ");
-    io::write_all(2, text);
+fn say(rt: &impl Eprint, text: &str) {
+    let _ = eprint!(rt; "map: {text}");
 }
 
 // An address of four hexadecimal digits.
@@ -35,18 +41,40 @@ fn address_of(word: &[u8]) -> Asked {
     Asked::At(high * 256 + low)
 }
 
+// Whether there is an argument at a place.
+fn is_given(rt: &impl Env, at: usize) -> bool {
+    let mut word = [0u8; 1];
+    match rt.arg(at, &mut word) {
+        Ok(_) => true,
+        Err(FillError::TooLong) => true,
+        Err(FillError::NotPresent) => false,
+    }
+}
+
+// How many arguments there are, the program's own name among them.
+fn arg_count(rt: &impl Env) -> usize {
+    for i in 0..usize::MAX {
+        if !is_given(rt, i) {
+            return i;
+        }
+    }
+    usize::MAX
+}
+
 // The address that is the argument at a place.
-fn word_at(at: usize) -> Asked {
-    let mut word = io::buffer();
-    let n = os::arg(at, &mut word);
-    address_of(&word[..n])
+fn word_at(rt: &impl Env, at: usize) -> Asked {
+    let mut word = [0u8; 4096];
+    match rt.arg(at, &mut word) {
+        Ok(n) => address_of(&word[..n]),
+        Err(_) => Asked::Other,
+    }
 }
 
 // Whether each argument is an address.
-fn all_addresses(count: usize) -> bool {
+fn all_addresses(rt: &impl Env, count: usize) -> bool {
     let mut i = 1usize;
     while i < count {
-        let word = word_at(i);
+        let word = word_at(rt, i);
         match word {
             Asked::At(_) => {}
             Asked::Other => return false,
@@ -56,87 +84,107 @@ fn all_addresses(count: usize) -> bool {
     true
 }
 
-fn refuse(refusal: u8, at: u16) {
-    if refusal == 4 {
-        say(b"4, line ");
-        io::print_decimal(2, at as u64);
-        io::write_all(2, b" is no line of a map, which has at most 64\n");
+fn refuse(rt: &impl Eprint, refusal: u8, at: u16) {
+    let _ = if refusal == 4 {
+        eprintln!(rt; "map: 4, line {at} is no line of a map, which has at most 64")
     } else if refusal == 19 {
-        say(b"19, address ");
-        io::print_hex(2, at as u64, 4);
-        io::write_all(2, b" lies in two lines\n");
+        eprintln!(rt; "map: 19, address {at:04x} lies in two lines")
     } else {
-        say(b"20, address ");
-        io::print_hex(2, at as u64, 4);
-        io::write_all(2, b" lies in no line\n");
-    }
+        eprintln!(rt; "map: 20, address {at:04x} lies in no line")
+    };
 }
 
-fn show(unit: Unit) -> bool {
+fn show(rt: &impl Print, unit: Unit) -> io::Result<()> {
     match unit {
-        Unit::Nobody => io::write_all(1, b"-\n"),
-        Unit::Number(n) => {
-            io::print_decimal(1, n as u64);
-            io::write_all(1, b"\n")
-        }
+        Unit::Nobody => println!(rt; "-"),
+        Unit::Number(n) => println!(rt; "{n}"),
     }
 }
 
-// Whether the unit of an address could be printed.
-fn answer(map: Map, address: u16) -> bool {
+// Prints the unit of an address.
+fn answer(rt: &(impl Print + Eprint), map: Map, address: u16) -> io::Result<()> {
     let found = map.lookup(address);
     match found {
-        Found::At(unit) => show(unit),
+        Found::At(unit) => show(rt, unit),
         Found::Refused(refusal, at) => {
-            refuse(refusal, at);
-            true
+            refuse(rt, refusal, at);
+            Ok(())
         }
     }
 }
 
-fn answer_at(map: Map, at: usize) -> bool {
-    let word = word_at(at);
+fn answer_at(rt: &(impl Env + Print + Eprint), map: Map, at: usize) -> io::Result<()> {
+    let word = word_at(rt, at);
     match word {
-        Asked::At(address) => answer(map, address),
-        Asked::Other => true,
+        Asked::At(address) => answer(rt, map, address),
+        Asked::Other => Ok(()),
     }
 }
 
-fn answer_all(map: Map, count: usize) {
+fn answer_all(rt: &(impl Env + Print + Eprint), map: Map, count: usize) -> io::Result<()> {
     let mut i = 1usize;
     while i < count {
-        let fine = answer_at(map, i);
-        if !fine {
-            say(b"standard output can't be written\n");
-            return;
-        }
+        answer_at(rt, map, i)?;
         i += 1;
     }
+    Ok(())
 }
 
-fn look_up(text: &[u8], count: usize) {
+fn look_up(rt: &(impl Env + Print + Eprint), text: &[u8], count: usize) -> io::Result<()> {
     let loaded = map::reading::load(text);
     let map = loaded.map;
     let checked = loaded.checked;
     match checked {
-        Checked::Accepted => answer_all(map, count),
-        Checked::Refused(refusal, at) => refuse(refusal, at),
+        Checked::Accepted => answer_all(rt, map, count),
+        Checked::Refused(refusal, at) => {
+            refuse(rt, refusal, at);
+            Ok(())
+        }
     }
 }
 
+// Reads until `buf` is full, the input ends or a read fails, and gives how many bytes it put at the start of `buf`.
+fn read_full(reader: &mut impl Read, buf: &mut [u8]) -> usize
+    ensures { result ≤ length buf.new }
+{
+    let mut done = 0usize;
+    while done < buf.len() {
+        let n = reader.read(&mut buf[done..]).unwrap_or(0);
+        if n == 0 {
+            break;
+        }
+        done += n;
+    }
+    done
+}
+
+// Says that standard output can't be written, or nothing where nobody reads on, and gives the exit status: then 141, as a shell tells of a program that
+// a closed pipe ends.
+fn unwritten(rt: &impl Eprint, error: io::Error) -> ExitCode {
+    if error.kind() == ErrorKind::BrokenPipe {
+        return ExitCode::from(141);
+    }
+    say(rt, "standard output can't be written\n");
+    ExitCode::SUCCESS
+}
+
 // The first 780 bytes of a text decide what is read of it (`cut_is_same` in crates/map).
-fn main() {
-    let count = os::arg_count();
-    if !all_addresses(count) {
-        say(b"ADDRESS is four lower-case hexadecimal digits\n");
-        return;
+fn main(rt: HostRuntime) -> ExitCode {
+    let count = arg_count(&rt);
+    if !all_addresses(&rt, count) {
+        say(&rt, "ADDRESS is four lower-case hexadecimal digits\n");
+        return ExitCode::SUCCESS;
     }
-    let mut room = io::large_buffer();
-    let n = io::read_full(0, &mut room);
-    let mut rest = io::buffer();
-    if libc::read(0, &mut rest) < 0 {
-        say(b"standard input can't be read\n");
-        return;
+    let mut reader = rt.reader();
+    let mut room = [0u8; 65536];
+    let n = read_full(&mut reader, &mut room);
+    let mut rest = [0u8; 4096];
+    if reader.read(&mut rest).is_err() {
+        say(&rt, "standard input can't be read\n");
+        return ExitCode::SUCCESS;
     }
-    look_up(&room[0..n], count);
+    match look_up(&rt, &room[0..n], count) {
+        Ok(()) => ExitCode::SUCCESS,
+        Err(error) => unwritten(&rt, error),
+    }
 }

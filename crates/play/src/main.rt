@@ -6,63 +6,76 @@ ghost use Rattle.std.specs.Prelude.{◌≡◌, ◌-◌, ◌≤◌, min, length, 
 
 use answers::Output;
 use player::Player;
+use std::io;
+use std::io::{ErrorKind, Read};
+use std::process::ExitCode;
+use std::rt::Env;
 
-// The bytes of the part that were played, the player after them, and whether all that they gave was written.
+// The bytes of the part that were played, the player after them, and whether all that they gave was written, or why not.
 #[derive(Clone, Copy)]
 struct Played {
     pub used: usize,
-    pub fine: bool,
+    pub written: io::Result<()>,
     pub player: Player,
 }
 
-// Whether more is to be read, the bytes held of a line that was begun, and the player.
+// Whether more is to be read, or why nothing more is written, the bytes held of a line that was begun, and the player.
 #[derive(Clone, Copy)]
 struct Turn {
-    pub more: bool,
+    pub more: io::Result<bool>,
     pub have: usize,
     pub player: Player,
 }
 
-// Writes all of it, or says on standard error that it can't.
-fn write_out(text: &[u8]) -> bool {
-    let fine = io::write_all(1, text);
-    if fine {
-        return true;
-    }
-    io::write_all(2, b"play: standard output can't be written\n");
-    false
+// Writes all of it.
+fn write_out(rt: &impl Print, text: &[u8]) -> io::Result<()> {
+    rt.write_all(text)
 }
 
 // Plays what the output has room for and writes it.
-fn play_some(player: Player, wanted: Output, part: &[u8], ended: bool, output: &mut [u8]) -> Played
+fn play_some(
+    rt: &impl Print,
+    player: Player,
+    wanted: Output,
+    part: &[u8],
+    ended: bool,
+    output: &mut [u8],
+) -> Played
     ensures { result.used ≤ length part.now }
 {
     let p = player.play_lines(wanted, part, ended, output);
     let written = p.written;
-    let fine = write_out(&output[0..written]);
+    let done = write_out(rt, &output[0..written]);
     let next = p.player;
     Played {
         used: p.used,
-        fine,
+        written: done,
         player: next,
     }
 }
 
 // Plays the whole lines of a part, the output emptied as often as it is full.
-fn play_part(player: Player, wanted: Output, part: &[u8], ended: bool, output: &mut [u8]) -> Played
+fn play_part(
+    rt: &impl Print,
+    player: Player,
+    wanted: Output,
+    part: &[u8],
+    ended: bool,
+    output: &mut [u8],
+) -> Played
     ensures { result.used ≤ length part.now }
 {
     let mut used = 0usize;
     let mut last = player;
     while used < part.len() {
-        let p = play_some(last, wanted, &part[used..], ended, output);
+        let p = play_some(rt, last, wanted, &part[used..], ended, output);
         let next = p.player;
         last = next;
         used += p.used;
-        if !p.fine {
+        if p.written.is_err() {
             return Played {
                 used,
-                fine: false,
+                written: p.written,
                 player: last,
             };
         }
@@ -72,7 +85,7 @@ fn play_part(player: Player, wanted: Output, part: &[u8], ended: bool, output: &
     }
     Played {
         used,
-        fine: true,
+        written: Ok(()),
         player: last,
     }
 }
@@ -99,6 +112,8 @@ fn keep(input: &mut [u8], from: usize, n: usize) -> usize
 
 // One read, after the bytes that are held, and its lines.
 fn next_turn(
+    rt: &(impl Print + Eprint),
+    reader: &mut impl Read,
     player: Player,
     wanted: Output,
     input: &mut [u8],
@@ -108,28 +123,34 @@ fn next_turn(
     requires { have ≤ length input.old }
     ensures { result.have ≤ 65 }
 {
-    let got = libc::read(0, &mut input[have..]);
-    if got < 0 {
-        io::write_all(2, b"play: standard input can't be read\n");
+    let Ok(got) = reader.read(&mut input[have..]) else {
+        let _ = eprintln!(rt; "play: standard input can't be read");
         return Turn {
-            more: false,
+            more: Ok(false),
             have: 0,
             player,
         };
-    }
-    let n = have + io::count(got, &input[have..]);
+    };
+    let n = have + got;
     let ended = n == have;
-    let p = play_part(player, wanted, &input[0..n], ended, output);
+    let p = play_part(rt, player, wanted, &input[0..n], ended, output);
     let next = p.player;
     let kept = keep(input, p.used, n);
+    let more = !ended & (next.lines < 1000000);
     Turn {
-        more: p.fine & !ended & (next.lines < 1000000),
+        more: p.written.map(|()| more),
         have: kept,
         player: next,
     }
 }
 
-fn run(wanted: Output, input: &mut [u8], output: &mut [u8])
+fn run(
+    rt: &(impl Print + Eprint),
+    reader: &mut impl Read,
+    wanted: Output,
+    input: &mut [u8],
+    output: &mut [u8],
+) -> io::Result<()>
     requires { 65 ≤ length input.old }
 {
     let mut player = Player::new();
@@ -137,14 +158,15 @@ fn run(wanted: Output, input: &mut [u8], output: &mut [u8])
     let mut turns = u64::MAX;
     while 0 < turns {
         turns -= 1;
-        let t = next_turn(player, wanted, input, have, output);
-        if !t.more {
-            return;
+        let t = next_turn(rt, reader, player, wanted, input, have, output);
+        if !t.more? {
+            return Ok(());
         }
         let next = t.player;
         player = next;
         have = t.have;
     }
+    Ok(())
 }
 
 // Whether a word is that of four letters.
@@ -159,9 +181,9 @@ fn says(word: &[u8], name: &[u8; 4]) -> bool {
 }
 
 // By the first argument.
-fn wanted() -> Output {
+fn wanted(rt: &impl Env) -> Output {
     let mut word = [0u8; 5];
-    let n = os::arg(1, &mut word);
+    let n = rt.arg(1, &mut word).unwrap_or(0);
     if says(&word[0..n], b"busy") {
         return Output::Reports;
     }
@@ -172,11 +194,12 @@ fn wanted() -> Output {
 }
 
 // What stands before the first line's text: of a VCD file the unit of time, and of each signal the byte that stands for it and its name.
-fn begin(wanted: Output) -> bool {
+fn begin(rt: &impl Print, wanted: Output) -> io::Result<()> {
     match wanted {
-        Output::Answers => true,
-        Output::Reports => true,
+        Output::Answers => Ok(()),
+        Output::Reports => Ok(()),
         Output::Waves => write_out(
+            rt,
             b"$timescale 1 ns $end
 $scope module iic $end
 $var wire 1 ! SCL $end
@@ -201,13 +224,28 @@ $enddefinitions $end
     }
 }
 
-fn main() {
-    let wanted = wanted();
-    let begun = begin(wanted);
-    if !begun {
-        return;
+fn play(rt: &(impl Env + Input + Print + Eprint)) -> io::Result<()> {
+    let wanted = wanted(rt);
+    begin(rt, wanted)?;
+    let mut reader = rt.reader();
+    let mut input = [0u8; 65536];
+    let mut output = [0u8; 65536];
+    run(rt, &mut reader, wanted, &mut input, &mut output)
+}
+
+// Says that standard output can't be written, or nothing where nobody reads on, and gives the exit status: then 141, as a shell tells of a program that
+// a closed pipe ends.
+fn unwritten(rt: &impl Eprint, error: io::Error) -> ExitCode {
+    if error.kind() == ErrorKind::BrokenPipe {
+        return ExitCode::from(141);
     }
-    let mut input = io::large_buffer();
-    let mut output = io::large_buffer();
-    run(wanted, &mut input, &mut output);
+    let _ = eprintln!(rt; "play: standard output can't be written");
+    ExitCode::SUCCESS
+}
+
+fn main(rt: HostRuntime) -> ExitCode {
+    match play(&rt) {
+        Ok(()) => ExitCode::SUCCESS,
+        Err(error) => unwritten(&rt, error),
+    }
 }

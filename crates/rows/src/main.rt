@@ -19,54 +19,52 @@ fn clock_set() -> Clocks {
     Clocks::new(at(0), Frequencies::default()).clocks
 }
 
-fn text(bytes: &[u8]) {
-    io::write_all(1, bytes);
+fn text(rt: &impl Print, bytes: &[u8]) {
+    let _ = rt.write_all(bytes);
 }
 
-fn byte(n: u8) {
-    io::print_hex(1, n as u64, 2);
+fn byte(rt: &impl Print, n: u8) {
+    let _ = print!(rt; "{n:02x}");
 }
 
-fn digit(b: bool) {
-    io::print_decimal(1, b as u64);
+fn digit(rt: &impl Print, b: bool) {
+    let _ = print!(rt; "{}", u8::from(b));
 }
 
-fn levels(l: Levels) {
-    digit(l.scl);
-    digit(l.sda);
+fn levels(rt: &impl Print, l: Levels) {
+    digit(rt, l.scl);
+    digit(rt, l.sda);
 }
 
 // The levels that are driven, `-` while none are.
-fn pins(s: Iic) {
+fn pins(rt: &impl Print, s: Iic) {
     match s.pins() {
-        Pins::NoPins => text(b"-"),
-        Pins::Driven(l) => levels(l),
+        Pins::NoPins => text(rt, b"-"),
+        Pins::Driven(l) => levels(rt, l),
     }
 }
 
-fn moment(t: Time) {
-    io::print_decimal(1, t.seconds);
-    text(b":");
-    io::print_hex(1, t.fraction, 16);
+fn moment(rt: &impl Print, t: Time) {
+    let Time { seconds, fraction } = t;
+    let _ = print!(rt; "{seconds}:{fraction:016x}");
 }
 
-fn refusal(n: u8) {
-    text(b"refused ");
-    io::print_decimal(1, n as u64);
+fn refusal(rt: &impl Print, n: u8) {
+    let _ = print!(rt; "refused {n}");
 }
 
-fn deadline(s: Iic, k: Clocks) {
+fn deadline(rt: &impl Print, s: Iic, k: Clocks) {
     match s.deadline(k) {
-        Deadline::Never => text(b"-"),
-        Deadline::At(t) => moment(t),
-        Deadline::Refused(n) => refusal(n),
+        Deadline::Never => text(rt, b"-"),
+        Deadline::At(t) => moment(rt, t),
+        Deadline::Refused(n) => refusal(rt, n),
     }
 }
 
-fn truth(t: Truth) {
+fn truth(rt: &impl Print, t: Truth) {
     match t {
-        Truth::Is(b) => digit(b),
-        Truth::Refused(n) => refusal(n),
+        Truth::Is(b) => digit(rt, b),
+        Truth::Refused(n) => refusal(rt, n),
     }
 }
 
@@ -81,26 +79,26 @@ fn awake(k: Clocks) -> Iic {
 }
 
 // Levels 1 0 on the default: 0.
-fn unnoticed(k: Clocks) {
+fn unnoticed(rt: &impl Print, k: Clocks) {
     let given = Iic::new().input_pins(true, false, at(1), k);
     let answer = given.answer;
-    truth(answer);
-    text(b"\n");
+    truth(rt, answer);
+    text(rt, b"\n");
 }
 
 // A visit later than a wait's time leaves it, one at that time ends it and starts the next.
-fn passed(k: Clocks) {
+fn passed(rt: &impl Print, k: Clocks) {
     let s = awake(k).input_pins(false, true, at(3), k).state;
-    deadline(s, k);
-    text(b" ");
-    deadline(s.advance(at(0x0000_048d_159e_26b0), k).state, k);
-    text(b" ");
-    deadline(s.advance(at(0x0000_048d_159e_26af), k).state, k);
-    text(b"\n");
+    deadline(rt, s, k);
+    text(rt, b" ");
+    deadline(rt, s.advance(at(0x0000_048d_159e_26b0), k).state, k);
+    text(rt, b" ");
+    deadline(rt, s.advance(at(0x0000_048d_159e_26af), k).state, k);
+    text(rt, b"\n");
 }
 
 // A refused call keeps what it did: the levels are those that the state holds.
-fn kept(k: Clocks) {
+fn kept(rt: &impl Print, k: Clocks) {
     let last = Time {
         seconds: u64::MAX,
         fraction: u64::MAX,
@@ -109,14 +107,14 @@ fn kept(k: Clocks) {
     let answer = first.answer;
     let second = first.state.input_pins(false, true, last, k);
     let again = second.answer;
-    truth(answer);
-    text(b" ");
-    truth(again);
-    text(b"\n");
+    truth(rt, answer);
+    text(rt, b" ");
+    truth(rt, again);
+    text(rt, b"\n");
 }
 
 // Edge 3 of 3 Hz falls on the second.
-fn exact() {
+fn exact(rt: &impl Print) {
     let third = Clock {
         start: at(0),
         numerator: 3,
@@ -125,45 +123,45 @@ fn exact() {
         fraction: 0,
     };
     match third.after(3) {
-        Moment::At(t) => moment(t),
-        Moment::Refused(n) => refusal(n),
+        Moment::At(t) => moment(rt, t),
+        Moment::Refused(n) => refusal(rt, n),
     }
-    text(b"\n");
+    text(rt, b"\n");
 }
 
 // The write that lifts the reset starts no frame; the visit after it does.
-fn lifted(k: Clocks) {
+fn lifted(rt: &impl Print, k: Clocks) {
     let s = Iic::new().set_gate(true, at(1), k).state;
     let s = write(write(s, 5, 0x01, 2, k), 0, 0xb0, 3, k);
     let s = write(write(write(s, 1, 0x02, 4, k), 6, 0x55, 5, k), 1, 0x00, 6, k);
-    pins(s);
-    text(b" ");
-    byte(s.peek(4));
-    text(b" ");
-    deadline(s, k);
+    pins(rt, s);
+    text(rt, b" ");
+    byte(rt, s.peek(4));
+    text(rt, b" ");
+    deadline(rt, s, k);
     let v = s.advance(at(7), k).state;
-    text(b" ");
-    pins(v);
-    text(b" ");
-    byte(v.peek(4));
-    text(b"\n");
+    text(rt, b" ");
+    pins(rt, v);
+    text(rt, b" ");
+    byte(rt, v.peek(4));
+    text(rt, b"\n");
 }
 
 // A write of ICDRT takes TDRE out of what was seen: raised anew, it isn't cleared.
-fn unseen(k: Clocks) {
+fn unseen(rt: &impl Print, k: Clocks) {
     let s = write(Iic::new(), 0, 0x10, 1, k);
     let r = s.read(4, at(2), k).state;
     let s = write(write(write(r, 6, 0x55, 3, k), 0, 0x00, 4, k), 0, 0x10, 5, k);
-    byte(write(s, 4, 0x00, 6, k).peek(4));
-    text(b"\n");
+    byte(rt, write(s, 4, 0x00, 6, k).peek(4));
+    text(rt, b"\n");
 }
 
-fn main() {
+fn main(rt: HostRuntime) {
     let k = clock_set();
-    unnoticed(k);
-    passed(k);
-    kept(k);
-    exact();
-    lifted(k);
-    unseen(k);
+    unnoticed(&rt, k);
+    passed(&rt, k);
+    kept(&rt, k);
+    exact(&rt);
+    lifted(&rt, k);
+    unseen(&rt, k);
 }

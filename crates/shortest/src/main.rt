@@ -5,6 +5,11 @@
 ghost use Rattle.std.specs.Prelude.{◌≤◌, length};
 
 use search::Found;
+use std::env::FillError;
+use std::io;
+use std::io::{ErrorKind, Read};
+use std::process::ExitCode;
+use std::rt::Env;
 
 // What an argument says.
 #[derive(Clone, Copy)]
@@ -27,9 +32,8 @@ struct Trace {
     fine: bool,
 }
 
-fn say(text: &[u8]) {
-    io::write_all(2, b"shortest: ");
-    io::write_all(2, text);
+fn say(rt: &impl Eprint, text: &str) {
+    let _ = eprint!(rt; "shortest: {text}");
 }
 
 // A decimal number up to 255.
@@ -100,22 +104,20 @@ fn hold(trace: &mut [u8], held: Held, part: &[u8]) -> Held
 }
 
 // Reads until the trace ends or the room does.
-fn read_trace(trace: &mut [u8]) -> Trace
+fn read_trace(reader: &mut impl Read, trace: &mut [u8]) -> Trace
     ensures { result.used ≤ length trace.old }
 {
-    let mut part = io::buffer();
+    let mut part = [0u8; 4096];
     let mut held = Held { used: 0, line: 0 };
     let mut turns = u64::MAX;
     while 0 < turns {
         turns -= 1;
-        let got = libc::read(0, &mut part);
-        if got < 0 {
+        let Ok(n) = reader.read(&mut part) else {
             return Trace {
                 used: held.used,
                 fine: false,
             };
-        }
-        let n = io::count(got, &part);
+        };
         if n == 0 {
             break;
         }
@@ -130,44 +132,41 @@ fn read_trace(trace: &mut [u8]) -> Trace
     }
 }
 
-fn show(first: usize, length: usize) {
-    io::print_decimal(1, first as u64);
-    io::write_all(1, b"\t");
-    io::print_decimal(1, length as u64);
-    if !io::write_all(1, b"\n") {
-        say(b"standard output can't be written\n");
-    }
+fn show(rt: &impl Print, first: usize, length: usize) -> io::Result<()> {
+    println!(rt; "{first}\t{length}")
 }
 
-fn refuse(refusal: u8, number: u8, limit: u16) {
-    if refusal == 17 {
-        say(b"17, the trace has more lines than ");
-        io::print_decimal(2, limit as u64);
+fn refuse(rt: &impl Eprint, refusal: u8, number: u8, limit: u16) {
+    let _ = if refusal == 17 {
+        eprintln!(rt; "shortest: 17, the trace has more lines than {limit}")
     } else {
-        say(b"18, no run of the trace's lines draws ");
-        io::print_decimal(2, number as u64);
-    }
-    io::write_all(2, b"\n");
+        eprintln!(rt; "shortest: 18, no run of the trace's lines draws {number}")
+    };
 }
 
-fn answer(trace: &[u8], number: u8, limit: u16) {
+fn answer(rt: &(impl Print + Eprint), trace: &[u8], number: u8, limit: u16) -> io::Result<()> {
     let done = search::shortest(trace, number, limit);
     let found = done.found;
     match found {
-        Found::At(first, length) => show(first, length),
-        Found::Refused(refusal) => refuse(refusal, number, limit),
+        Found::At(first, length) => show(rt, first, length),
+        Found::Refused(refusal) => {
+            refuse(rt, refusal, number, limit);
+            Ok(())
+        }
     }
 }
 
 // There is room for 992 lines, of at most 66 bytes each.
-fn search_for(number: u8, limit: u16) {
-    let mut room = io::large_buffer();
-    let read = read_trace(&mut room);
+fn search_for(rt: &(impl Input + Print + Eprint), number: u8, limit: u16) -> io::Result<()> {
+    let mut reader = rt.reader();
+    let mut room = [0u8; 65536];
+    let read = read_trace(&mut reader, &mut room);
     let used = read.used;
     if read.fine {
-        answer(&room[0..used], number, limit);
+        answer(rt, &room[0..used], number, limit)
     } else {
-        say(b"standard input can't be read\n");
+        say(rt, "standard input can't be read\n");
+        Ok(())
     }
 }
 
@@ -187,30 +186,57 @@ fn is_leaflet(word: &[u8]) -> bool {
     true
 }
 
-// The search with that limit, for the number that is the argument at that place and the last.
-fn search_by(at: usize, limit: u16)
-    requires { at ≤ 2 }
-{
-    let mut word = io::buffer();
-    let n = os::arg(at, &mut word);
-    let asked = number_of(&word[..n]);
-    if os::arg_count() != at + 1 {
-        say(b"[--leaflet] NUMBER is wanted\n");
-        return;
-    }
-    match asked {
-        Asked::Number(number) => search_for(number, limit),
-        Asked::Other => say(b"NUMBER is a decimal number from 0 to 255\n"),
+// Whether there is an argument at a place.
+fn is_given(rt: &impl Env, at: usize) -> bool {
+    let mut word = [0u8; 1];
+    match rt.arg(at, &mut word) {
+        Ok(_) => true,
+        Err(FillError::TooLong) => true,
+        Err(FillError::NotPresent) => false,
     }
 }
 
-fn main() {
-    let mut word = io::buffer();
-    let n = os::arg(1, &mut word);
+// The search with that limit, for the number that is the argument at that place and the last.
+fn search_by(rt: &(impl Env + Input + Print + Eprint), at: usize, limit: u16) -> io::Result<()>
+    requires { at ≤ 2 }
+{
+    let mut word = [0u8; 4096];
+    let n = rt.arg(at, &mut word).unwrap_or(0);
+    let asked = number_of(&word[..n]);
+    if !is_given(rt, at) | is_given(rt, at + 1) {
+        say(rt, "[--leaflet] NUMBER is wanted\n");
+        return Ok(());
+    }
+    match asked {
+        Asked::Number(number) => search_for(rt, number, limit),
+        Asked::Other => {
+            say(rt, "NUMBER is a decimal number from 0 to 255\n");
+            Ok(())
+        }
+    }
+}
+
+// Says that standard output can't be written, or nothing where nobody reads on, and gives the exit status: then 141, as a shell tells of a program that
+// a closed pipe ends.
+fn unwritten(rt: &impl Eprint, error: io::Error) -> ExitCode {
+    if error.kind() == ErrorKind::BrokenPipe {
+        return ExitCode::from(141);
+    }
+    say(rt, "standard output can't be written\n");
+    ExitCode::SUCCESS
+}
+
+fn main(rt: HostRuntime) -> ExitCode {
+    let mut word = [0u8; 4096];
+    let n = rt.arg(1, &mut word).unwrap_or(0);
     let leaflet = is_leaflet(&word[..n]);
-    if leaflet {
-        search_by(2, 32);
+    let shown = if leaflet {
+        search_by(&rt, 2, 32)
     } else {
-        search_by(1, 256);
+        search_by(&rt, 1, 256)
+    };
+    match shown {
+        Ok(()) => ExitCode::SUCCESS,
+        Err(error) => unwritten(&rt, error),
     }
 }

@@ -21,10 +21,10 @@ struct Heard {
 
 impl Heard {
     // A clock with SDA released, and the level that it samples.
-    fn sampled(self) -> Heard {
+    fn sampled(self, rt: &impl Print) -> Heard {
         let byte = self.byte;
         let before = self.wires;
-        let wires = before.clock(true);
+        let wires = before.clock(rt, true);
         let settled = wires.settled;
         Heard {
             wires,
@@ -33,11 +33,11 @@ impl Heard {
     }
 
     // The ninth clock.
-    fn answered(self, level: bool) -> Heard {
+    fn answered(self, rt: &impl Print, level: bool) -> Heard {
         let byte = self.byte;
         let before = self.wires;
         Heard {
-            wires: before.clock(level),
+            wires: before.clock(rt, level),
             byte,
         }
     }
@@ -57,7 +57,7 @@ impl Wires {
     }
 
     // The master drives the lines; a line for the edge: the levels that come to the sensor, those after its pull, and what it asks.
-    fn drive(self, scl: bool, sda: bool) -> Wires {
+    fn drive(self, rt: &impl Print, scl: bool, sda: bool) -> Wires {
         let before = self.board;
         let was = before.state;
         let current = Levels {
@@ -71,11 +71,11 @@ impl Wires {
             scl,
             sda: sda & !state.low,
         };
-        show::levels(current);
-        show::text(b" ");
-        show::levels(settled);
-        show::effect(effect);
-        show::text(b"\n");
+        show::levels(rt, current);
+        show::text(rt, b" ");
+        show::levels(rt, settled);
+        show::effect(rt, effect);
+        show::text(rt, b"\n");
         Wires {
             board,
             scl,
@@ -84,64 +84,74 @@ impl Wires {
         }
     }
 
-    fn start(self) -> Wires {
-        show::text(b"start\n");
-        self.drive(false, true).drive(true, true).drive(true, false)
+    fn start(self, rt: &impl Print) -> Wires {
+        show::text(rt, b"start\n");
+        self.drive(rt, false, true)
+            .drive(rt, true, true)
+            .drive(rt, true, false)
     }
 
-    fn stop(self) -> Wires {
-        show::text(b"stop\n");
-        self.drive(false, false)
-            .drive(true, false)
-            .drive(true, true)
+    fn stop(self, rt: &impl Print) -> Wires {
+        show::text(rt, b"stop\n");
+        self.drive(rt, false, false)
+            .drive(rt, true, false)
+            .drive(rt, true, true)
     }
 
     // SCL falls, SDA takes the level, SCL rises.
-    fn clock(self, level: bool) -> Wires {
+    fn clock(self, rt: &impl Print, level: bool) -> Wires {
         let sda = self.sda;
-        self.drive(false, sda)
-            .drive(false, level)
-            .drive(true, level)
+        self.drive(rt, false, sda)
+            .drive(rt, false, level)
+            .drive(rt, true, level)
     }
 
     // A byte, high bit first, and SDA released for its acknowledge.
-    fn send(self, value: u8) -> Wires {
-        show::text(b"byte");
-        show::byte(value);
-        show::text(b"\n");
-        let half = self.half(value);
-        half.half(value << 4).clock(true)
+    fn send(self, rt: &impl Print, value: u8) -> Wires {
+        show::text(rt, b"byte");
+        show::byte(rt, value);
+        show::text(rt, b"\n");
+        let half = self.half(rt, value);
+        half.half(rt, value << 4).clock(rt, true)
     }
 
     // The upper four bits of a byte, high bit first.
-    fn half(self, value: u8) -> Wires {
-        let two = self.clock(value & 0x80 != 0).clock(value & 0x40 != 0);
-        two.clock(value & 0x20 != 0).clock(value & 0x10 != 0)
+    fn half(self, rt: &impl Print, value: u8) -> Wires {
+        let two = self
+            .clock(rt, value & 0x80 != 0)
+            .clock(rt, value & 0x40 != 0);
+        two.clock(rt, value & 0x20 != 0)
+            .clock(rt, value & 0x10 != 0)
     }
 
     // A byte of the sensor's, and the master's acknowledge.
-    fn receive(self, more: bool) -> Heard {
-        show::text(b"read\n");
+    fn receive(self, rt: &impl Print, more: bool) -> Heard {
+        show::text(rt, b"read\n");
         let begun = Heard {
             wires: self,
             byte: 0,
         };
-        let half = begun.sampled().sampled().sampled().sampled();
-        let whole = half.sampled().sampled().sampled().sampled();
-        whole.answered(!more)
+        let half = begun.sampled(rt).sampled(rt).sampled(rt).sampled(rt);
+        let whole = half.sampled(rt).sampled(rt).sampled(rt).sampled(rt);
+        whole.answered(rt, !more)
     }
 
     // A register is written; then it and the next are read.
-    pub(crate) fn transfers(self, pointer: u8, value: u8) -> Wires {
-        let written = self.start().send(0x70).send(pointer).send(value).stop();
-        let pointed = written.start().send(0x70).send(pointer);
-        let first = pointed.start().send(0x71).receive(true);
-        let second = first.wires.receive(false);
-        let wires = second.wires.stop();
-        show::text(b"read");
-        show::byte(first.byte);
-        show::byte(second.byte);
-        show::text(b"\n");
+    pub(crate) fn transfers(self, rt: &impl Print, pointer: u8, value: u8) -> Wires {
+        let written = self
+            .start(rt)
+            .send(rt, 0x70)
+            .send(rt, pointer)
+            .send(rt, value)
+            .stop(rt);
+        let pointed = written.start(rt).send(rt, 0x70).send(rt, pointer);
+        let first = pointed.start(rt).send(rt, 0x71).receive(rt, true);
+        let second = first.wires.receive(rt, false);
+        let wires = second.wires.stop(rt);
+        show::text(rt, b"read");
+        show::byte(rt, first.byte);
+        show::byte(rt, second.byte);
+        show::text(rt, b"\n");
         wires
     }
 }

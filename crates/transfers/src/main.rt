@@ -22,39 +22,39 @@ fn clock_set() -> Clocks {
     Clocks::new(start, Frequencies::default()).clocks
 }
 
-fn by_levels() {
-    let wires = Wires::new(Board::new().stored(0x0b, 0x96)).transfers(0x0a, 0x5c);
+fn by_levels(rt: &impl Print) {
+    let wires = Wires::new(Board::new().stored(0x0b, 0x96)).transfers(rt, 0x0a, 0x5c);
     let board = wires.board;
-    show::text(b"register 0a");
-    show::byte(board.register(0x0a));
-    show::verdict(board.register(0x0a) == 0x5c);
+    show::text(rt, b"register 0a");
+    show::byte(rt, board.register(0x0a));
+    show::verdict(rt, board.register(0x0a) == 0x5c);
 }
 
 // A byte written by the peripheral, and it and the one after it read back.
-fn by_the_peripheral(pointer: u8, value: u8, next: u8, k: Clocks) {
+fn by_the_peripheral(rt: &impl Print, pointer: u8, value: u8, next: u8, k: Clocks) {
     let bench = Bench::new(Board::new().stored((pointer % 128 + 1) % 128, next), k).write(
-        pointer, value, k,
+        rt, pointer, value, k,
     );
     let board = bench.board;
-    show::text(b"sent");
-    show::byte(value);
-    show::text(b" register");
-    show::byte(board.register(pointer));
-    show::verdict(board.register(pointer) == value);
-    let two = bench.read_two(pointer, k);
-    show::text(b"registers");
-    show::byte(value);
-    show::byte(next);
-    show::text(b" received");
-    show::byte(two.first);
-    show::byte(two.second);
-    show::verdict((two.first == value) & (two.second == next));
+    show::text(rt, b"sent");
+    show::byte(rt, value);
+    show::text(rt, b" register");
+    show::byte(rt, board.register(pointer));
+    show::verdict(rt, board.register(pointer) == value);
+    let two = bench.read_two(rt, pointer, k);
+    show::text(rt, b"registers");
+    show::byte(rt, value);
+    show::byte(rt, next);
+    show::text(rt, b" received");
+    show::byte(rt, two.first);
+    show::byte(rt, two.second);
+    show::verdict(rt, (two.first == value) & (two.second == next));
 }
 
-fn main() {
+fn main(rt: HostRuntime) {
     let k = clock_set();
-    by_levels();
-    by_the_peripheral(0x0a, 0x5c, 0x96, k);
-    by_the_peripheral(0x7f, 0x00, 0xff, k);
-    by_the_peripheral(0x00, 0xff, 0x80, k);
+    by_levels(&rt);
+    by_the_peripheral(&rt, 0x0a, 0x5c, 0x96, k);
+    by_the_peripheral(&rt, 0x7f, 0x00, 0xff, k);
+    by_the_peripheral(&rt, 0x00, 0xff, 0x80, k);
 }

@@ -151,7 +151,7 @@ impl Bench {
     }
 
     // Visits until a flag of ICSR is set.
-    fn until(self, flag: u8, k: Clocks) -> Bench {
+    fn until(self, rt: &impl Print, flag: u8, k: Clocks) -> Bench {
         let mut bench = self;
         for _ in 0..4000u32 {
             let iic = bench.iic;
@@ -161,13 +161,13 @@ impl Bench {
             }
             bench = bench.visited(k);
         }
-        show::text(b"the flag never came\n");
+        show::text(rt, b"the flag never came\n");
         bench
     }
 
     // A byte goes out once ICDRT is free.
-    fn send(self, value: u8, k: Clocks) -> Bench {
-        self.until(TDRE, k).put(6, value, k)
+    fn send(self, rt: &impl Print, value: u8, k: Clocks) -> Bench {
+        self.until(rt, TDRE, k).put(6, value, k)
     }
 
     // A flag is read as set, and written 0.
@@ -175,14 +175,17 @@ impl Bench {
         self.get(4, k).bench.put(4, 0, k)
     }
 
-    fn stop(self, k: Clocks) -> Bench {
-        self.put(1, 0x10, k).until(STOP, k).cleared(k)
+    fn stop(self, rt: &impl Print, k: Clocks) -> Bench {
+        self.put(1, 0x10, k).until(rt, STOP, k).cleared(k)
     }
 
-    pub(crate) fn write(self, pointer: u8, value: u8, k: Clocks) -> Bench {
+    pub(crate) fn write(self, rt: &impl Print, pointer: u8, value: u8, k: Clocks) -> Bench {
         let begun = self.put(0, 0xb0, k).put(1, 0x90, k);
-        let sent = begun.send(0x70, k).send(pointer, k).send(value, k);
-        sent.until(TEND, k).cleared(k).stop(k)
+        let sent = begun
+            .send(rt, 0x70, k)
+            .send(rt, pointer, k)
+            .send(rt, value, k);
+        sent.until(rt, TEND, k).cleared(k).stop(rt, k)
     }
 }
 
@@ -196,21 +199,28 @@ pub(crate) struct Two {
 
 impl Bench {
     // The register's number goes out, and then the address for a read.
-    fn asked(self, pointer: u8, k: Clocks) -> Bench {
+    fn asked(self, rt: &impl Print, pointer: u8, k: Clocks) -> Bench {
         let begun = self.put(0, 0xb0, k).put(1, 0x90, k);
-        let pointed = begun.send(0x70, k).send(pointer, k).until(TEND, k);
+        let pointed = begun
+            .send(rt, 0x70, k)
+            .send(rt, pointer, k)
+            .until(rt, TEND, k);
         pointed
             .put(1, 0x90, k)
-            .send(0x71, k)
-            .until(TEND, k)
+            .send(rt, 0x71, k)
+            .until(rt, TEND, k)
             .cleared(k)
     }
 
-    pub(crate) fn read_two(self, pointer: u8, k: Clocks) -> Two {
-        let asked = self.asked(pointer, k);
+    pub(crate) fn read_two(self, rt: &impl Print, pointer: u8, k: Clocks) -> Two {
+        let asked = self.asked(rt, pointer, k);
         let began = asked.put(0, 0xa0, k).get(7, k).bench;
-        let first = began.until(RDRF, k).put(3, 1, k).put(0, 0xe0, k).get(7, k);
-        let ended = first.bench.until(RDRF, k).stop(k);
+        let first = began
+            .until(rt, RDRF, k)
+            .put(3, 1, k)
+            .put(0, 0xe0, k)
+            .get(7, k);
+        let ended = first.bench.until(rt, RDRF, k).stop(rt, k);
         let second = ended.get(7, k);
         Two {
             bench: second.bench.put(0, 0x80, k),

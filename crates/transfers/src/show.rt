@@ -2,43 +2,41 @@
 use bus::Levels;
 use sensor::Effect;
 
-pub(crate) fn text(bytes: &[u8]) {
-    io::write_all(1, bytes);
+pub(crate) fn text(rt: &impl Print, bytes: &[u8]) {
+    let _ = rt.write_all(bytes);
 }
 
-pub(crate) fn byte(n: u8) {
-    text(b" ");
-    io::print_hex(1, n as u64, 2);
+pub(crate) fn byte(rt: &impl Print, n: u8) {
+    let _ = print!(rt; " {n:02x}");
 }
 
-pub(crate) fn levels(l: Levels) {
-    io::print_decimal(1, l.scl as u64);
-    io::print_decimal(1, l.sda as u64);
+pub(crate) fn levels(rt: &impl Print, l: Levels) {
+    let _ = print!(rt; "{}{}", u8::from(l.scl), u8::from(l.sda));
 }
 
-pub(crate) fn effect(e: Effect) {
+pub(crate) fn effect(rt: &impl Print, e: Effect) {
     match e {
         Effect::NoEffect => {}
         Effect::Write(pointer, value) => {
-            text(b" write");
-            byte(pointer);
-            byte(value);
+            text(rt, b" write");
+            byte(rt, pointer);
+            byte(rt, value);
         }
         Effect::Prepare(pointer) => {
-            text(b" prepare");
-            byte(pointer);
+            text(rt, b" prepare");
+            byte(rt, pointer);
         }
         Effect::Acknowledge(pointer) => {
-            text(b" read");
-            byte(pointer);
+            text(rt, b" read");
+            byte(rt, pointer);
         }
     }
 }
 
-pub(crate) fn verdict(equal: bool) {
+pub(crate) fn verdict(rt: &impl Print, equal: bool) {
     if equal {
-        text(b" equal\n");
+        text(rt, b" equal\n");
     } else {
-        text(b" NOT equal\n");
+        text(rt, b" NOT equal\n");
     }
 }
