@@ -30,7 +30,7 @@ impl Flags {
 }
 
 impl Iic {
-    // The state at power_on.
+    // The state at power-on.
     pub fn new() -> Iic
         ensures { result ≡ default_iic }
     {
