@@ -5,8 +5,7 @@ use native.Mathlib.Omega.{arith}
 use lib.Dec.{T, ltb, leb}
 use borrow.Author.Tests.{leb-true, leb-false, ltb-true, ltb-false, lt-ltb, le-ltb}
 use Rattle.lines.specs.Reading.{digit_of}
-use Rattle.lines.proofs.reading.digit.Statement.{statement}
-use Rattle.lines.proofs.reading.digit.Tie as tie
+use Rattle.lines.proofs.reading.digit.Goals as goal
 
 both : (x y : Bool) → (x && y) ≡ true → (x ≡ true) × (y ≡ true)
 both true y e = (refl, e)
@@ -26,26 +25,23 @@ neither n true false true true ep eq er es e f = absurd (subst T f tt)
 neither n true false true false ep eq er es e f =
     simp (le-ltb n 48 (leb-true 48 n ep), le-ltb n 58 (ltb-false n 58 eq), le-ltb n 97 (leb-true 97 n er), le-ltb n 103 (ltb-false n 103 es))
 
-sub-result : tie.Need-overflow-sub-result
-sub-result c = let p = between 48 c.before.args.b 58 c.if1.true in omega (arith, p.0)
+pub overflow_sub-result : goal.overflow_sub-result
+overflow_sub-result c = let p = between 48 c.args.b 58 c.if-decimal.true in omega (arith, p.0)
 
-returns : tie.Need-returns
+pub returns-then-decimal : goal.returns-then-decimal
 unfolding digit_of
-returns c =
-    let p = between 48 c.before.args.b 58 c.if1.true in (simp (le-ltb c.before.args.b 48 p.0, lt-ltb c.before.args.b 58 p.1), omega (arith, p.0, p.1))
+returns-then-decimal c =
+    let p = between 48 c.args.b 58 c.if-decimal.true in (simp (le-ltb c.args.b 48 p.0, lt-ltb c.args.b 58 p.1), omega (arith, p.0, p.1))
 
-sub-result-2 : tie.Need-overflow-sub-result-2
-sub-result-2 c = let p = between 97 c.before.before.args.b 103 c.if2.true in omega (arith, p.0)
+pub overflow_sub-result-then-letter : goal.overflow_sub-result-then-letter
+overflow_sub-result-then-letter c = let p = between 97 c.args.b 103 c.if-letter.true in omega (arith, p.0)
 
-returns-2 : tie.Need-returns-2
+pub returns-then-letter : goal.returns-then-letter
 unfolding digit_of
-returns-2 c =
-    let b = c.before.before.args.b in
-    let p = between 97 b 103 c.if2.true in
+returns-then-letter c =
+    let b = c.args.b in
+    let p = between 97 b 103 c.if-letter.true in
     (simp (le-ltb b 48 (omega (arith, p.0)), le-ltb b 58 (omega (arith, p.0)), le-ltb b 97 p.0, lt-ltb b 103 p.1), omega (arith, p.0, p.1))
 
-returns-3 : tie.Need-returns-3
-returns-3 c = (neither _ _ _ _ _ refl refl refl refl c.before.if1.false c.if2.false, omega arith)
-
-pub digit_spec : {M : Type 1} → statement M
-digit_spec = tie.close (tie.spec sub-result returns sub-result-2 returns-2 returns-3)
+pub returns-else-letter : goal.returns-else-letter
+returns-else-letter c = (neither _ _ _ _ _ refl refl refl refl c.if-decimal.false c.if-letter.false, omega arith)
