@@ -12,8 +12,8 @@ use Rattle.map.specs.declared.reading.MaybeRange.TheVariants.{NoRange, IsRange}
 use Rattle.map.specs.declared.reading.Read.{Read}
 use Rattle.map.specs.Map.{check_of, ranges_of, wrong_from, wrong_of}
 use Rattle.map.specs.Meaning.{InOne, AllIn, none, and, Fits}
-use Rattle.map.specs.MapLaws.{wrong_clear}
-use Rattle.map.specs.AcceptLaws.{accepted_each, each_accepted, no_refusal}
+use Rattle.map.proofs.MapLaws.{wrong_clear}
+use Rattle.map.proofs.AcceptLaws.{accepted_each, each_accepted, no_refusal}
 use Rattle.map.specs.Reading.{empty_map, wrong_next, with_range, with_line, range_of, read_from, read_of, check_read, load_of}
 use Rattle.map.specs.TextLaws.{Sized, added_sized, empty_sized, text_is_spelled, spelled_is_text}
 

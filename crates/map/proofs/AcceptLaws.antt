@@ -11,7 +11,7 @@ use Rattle.map.specs.declared.Map.{Map}
 use Rattle.map.specs.declared.Checked.TheVariants.{Accepted, Refused}
 use Rattle.map.specs.Map.{addresses, check_of, check_ranges, holders_of, in_none, in_two, lies, lowest, ranges_of, unit_at, wrong_of}
 use Rattle.map.specs.Meaning.{InOne, TwoAt, NoneAt, Means}
-use Rattle.map.specs.MapLaws.{lowest_told, check_ranges_lem, check_fine, wrong_few, not_both}
+use Rattle.map.proofs.MapLaws.{lowest_told, check_ranges_lem, check_fine, wrong_few, not_both}
 
 pub no_refusal : {A : Type 0} (n a : ℕ) → Refused n a ≡ Accepted → A
 no_refusal n a e = absurd (let z : ◌≡◌ {A = ℕ} 0 1 = cc in omega arith)

@@ -11,7 +11,7 @@ use borrow.Author.Tests.{ltb-true, ltb-false, eqb-true, eqb-false, le-leb, lt-le
 use Rattle.lines.specs.NumberLaws.{below_or_not}
 use Rattle.map.specs.declared.Range.{Range}
 use Rattle.map.specs.Map.{addresses, between, lies, holders_of, lowest, in_two, in_none}
-use Rattle.map.specs.MapLaws.{true_or_false, not_both, lowest_is, lowest_same}
+use Rattle.map.proofs.MapLaws.{true_or_false, not_both, lowest_is, lowest_same}
 use Rattle.map.specs.Spans.{held_in, Held, in_two_of, in_none_of, lower_of, lower_after}
 
 -- ## One range
