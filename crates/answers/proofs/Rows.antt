@@ -1,8 +1,7 @@
--- Bytes put one after the other from the start of a buffer, with a bound on their number; the bounds of an answer line's fields.
+-- How many bytes each field of an answer line has at most.
 -- Assumes nothing.
-use mathlib.Core.Path.{◌≡◌, ◌∙◌}
-use mathlib.Core.List.{List, ◌∷◌, ◌++◌}
-use Prim.Native.Nat.{ℕ, ◌+◌, ◌≤◌}
+use mathlib.Core.List.{◌∷◌}
+use Prim.Native.Nat.{ℕ, ◌≤◌}
 use native.Mathlib.Omega.{arith}
 use lib.ListN.{length, length-append}
 use Rattle.iic.specs.declared.Pins.{Pins}
@@ -12,26 +11,8 @@ use Rattle.answers.specs.declared.Value.TheVariants.{NoValue, Byte, Bit, Moment}
 use Rattle.answers.specs.declared.Shown.{Shown}
 use Rattle.answers.specs.declared.Shown.TheVariants.{Alone, Unit, Nobody}
 use Rattle.lines.specs.Numbers.{decimal_in, hex_in}
-use Rattle.answers.specs.Puts.{Put}
 use Rattle.answers.specs.Answers.{value_text, levels_text, unit_text, state_text, shown_text}
 use Rattle.lines.specs.NumberLaws.{decimal_length, hex_length}
-use Rattle.answers.proofs.Puts.{put_then}
-
-pub record Row (before after : List ℕ) (r : ℕ) (bytes : List ℕ) (most : ℕ) : Type 0 where
-  pub put : Put before after 0 r bytes
-  pub room : r ≤ most
-  pub long : length after ≡ length before
-
-pub first : {a b : List ℕ} {r : ℕ} {xs : List ℕ} (m : ℕ) → length xs ≤ m → Put a b 0 r xs → length b ≡ length a → Row a b r xs m
-first m h p e = record { put = p; room = let n = p.next in omega arith; long = e }
-
-pub more : {a b c : List ℕ} {q r : ℕ} {xs ys : List ℕ} {n : ℕ} (m : ℕ) → length ys ≤ m → Row a b q xs n → Put b c q r ys → length c ≡ length b
-    → Row a c r (xs ++ ys) (n + m)
-more m h l p e = record {
-  put = put_then (omega arith) l.put p;
-  room = omega (arith, p.next, l.room);
-  long = e ∙ l.long;
-}
 
 pub value_length : (v : Value) → length (value_text v) ≤ 37
 value_length NoValue = omega arith

@@ -13,4 +13,4 @@ returns-then-alone c =
     ∙ sym (advance_over_lem trace_clocks trace_free a.state a.time (sym c.waits_on_system-alone.ensures ∙ c.if-alone.true))
 
 pub returns-else-alone : goal.returns-else-alone
-returns-else-alone c = simp (c.advance.ensures, ← c.trace_clocks.ensures, c.if-alone.false, ← c.waits_on_system-alone.ensures)
+returns-else-alone c = simp (c.advance.ensures, ← c.trace_clocks.ensures)

@@ -1,9 +1,6 @@
--- The digits of n / 100 come first.
-use mathlib.Core.Path.{ap, ap₂, ◌∙◌}
-use mathlib.Core.List.{[], ◌∷◌, ◌++◌}
-use Prim.Native.Nat.{ℕ, ◌-◌, ◌/◌, ◌≤◌}
-use native.Mathlib.Omega.{arith}
-use lib.ListN.{length}
+-- `answers::text::put_decimal` meets its contract: the digits of n / 100 come first.
+-- Assumes nothing.
+use Rattle.std.proofs.Common.{arith, ℕ, [], ◌∷◌, ◌++◌, ◌-◌, ◌/◌, ap, ap₂, ◌∙◌}
 use Rattle.lines.specs.Numbers.{decimal_in}
 use Rattle.lines.specs.NumberLaws.{decimal_length}
 use Rattle.answers.proofs.Puts.{put_none, put_then, put_as, decimal_none, decimal_last, decimal_end, decimal_two, decimal_on}
@@ -29,17 +26,12 @@ returns-then-tens-lt10 t c =
     c.put_two.ensures
 
 pub put_two-requires-2 : goal.put_two-requires-2
-put_two-requires-2 t c =
-    let d = c.put_decimal-next in
-    let a = c.args in
-    let few : length (decimal_in (a.k - 2) (a.n / 10 / 10)) ≤ a.k - 2 = decimal_length (a.k - 2) (a.n / 10 / 10) in
-    omega (arith, d.ensures.next, d.auto.out, c.if-k-eq0.false, c.if-k-eq1.false, c.requires)
+put_two-requires-2 t c = omega (arith, decimal_length (c.args.k - 2) (c.args.n / 10 / 10))
 
 pub returns : goal.returns
 returns t c =
-    let d = c.put_decimal-next in
     let a = c.args in
     put_as
     (ap₂ (λ (x y : ℕ). decimal_in (a.k - 2) (a.n / 10 / 10) ++ (x ∷ y ∷ [])) c.glyph_of-2.ensures c.glyph_of-last.ensures
     ∙ decimal_on a.k a.n (omega arith) c.if-n-lt10.false c.if-tens-lt10.false)
-    (put_then (omega (arith, c.requires)) d.ensures c.put_two-2.ensures)
+    (put_then (omega arith) c.put_decimal-next.ensures c.put_two-2.ensures)
