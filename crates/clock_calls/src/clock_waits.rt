@@ -77,6 +77,7 @@ pub fn half_by(present: u64, count: u64, paused: u64) -> MaybeHalf
     })
 }
 
+#[tactic(auto, unfolding(crate::specs::Waits::state_by))]
 fn state_of(number: u64, count: u64, fraction: u64) -> WaitState
     ensures { result ≡ state_by number count fraction }
 {

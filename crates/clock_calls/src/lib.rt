@@ -72,6 +72,7 @@ fn clock_at(args: &[u64; 24]) -> Clock {
     }
 }
 
+#[tactic(auto, unfolding(crate::specs::Waits::source_by))]
 fn source_of(n: u64) -> Source
     ensures { result ≡ source_by n }
 {

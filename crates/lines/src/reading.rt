@@ -104,6 +104,7 @@ fn fraction(rest: &[u8]) -> MaybeUnits
 }
 
 // A verb without operands.
+#[tactic(auto, unfolding(crate::specs::Reading::bare_of))]
 fn bare(verb: u8) -> MaybeVerb
     ensures { result ≡ bare_of verb }
 {

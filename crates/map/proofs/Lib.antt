@@ -1,1 +1,4 @@
-pub mod Long
+pub mod MapLaws
+pub mod AcceptLaws
+pub mod SpanLaws
+pub mod LoadLaws

@@ -2,11 +2,7 @@ pub mod Map
 pub mod Format
 pub mod Reading
 pub mod Meaning
-pub mod MapLaws
-pub mod AcceptLaws
 pub mod Spans
-pub mod SpanLaws
 pub mod ReadingLaws
 pub mod TextLaws
-pub mod LoadLaws
 pub mod CutLaws

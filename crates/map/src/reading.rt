@@ -43,6 +43,7 @@ fn address(a: u8, b: u8, c: u8, d: u8) -> MaybeUnits
     MaybeUnits::Units((high * 16 + s as u64) * 16 + t as u64)
 }
 
+#[tactic(auto, unfolding(crate::specs::Reading::unit_of))]
 fn unit(b: u8) -> Unit
     ensures { result ≡ unit_of b }
 {

@@ -72,6 +72,7 @@ pub fn parse(line: &[u8]) -> Next
     called(&line[next..], time)
 }
 
+#[tactic(auto, unfolding(crate::specs::Script::judged_as))]
 fn judge_call(u: u8, call: Call, last: Last, count: u8) -> Judged
     ensures { result ≡ judged_as count u call last }
 {
