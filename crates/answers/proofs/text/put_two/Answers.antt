@@ -1,0 +1,7 @@
+use native.Mathlib.Omega.{arith}
+use Rattle.answers.proofs.Puts.{put_then}
+use Rattle.answers.proofs.text.put_two.Goals as goal
+
+pub returns : goal.returns
+returns c =
+    put_then (omega (arith, c.requires)) c.put_byte-next.ensures c.put_byte.ensures
