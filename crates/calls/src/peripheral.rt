@@ -18,8 +18,10 @@ pub fn fresh(state: &mut [u64; 75])
 }
 
 // The state before the first call with the rate set that the words hold, and whether the set is refused.
+#[tactic(auto, unfolding(iic::specs::State::initial))]
 pub fn with_rates(state: &mut [u64; 75]) -> u64
-    ensures { (result ≡ (with_rates_of (rates_at state.old)).refusal) × Begins (register_words default_iic.registers) state.new }
+    ensures refusal { result ≡ (with_rates_of (rates_at state.old)).refusal }
+    ensures registers { Begins (register_words default_iic.registers) state.new }
 {
     let given = Iic::with_rates(rates_of(state));
     put_iic(given.state, state);
@@ -114,7 +116,8 @@ pub fn validate(state: &[u64; 75], args: &[u64; 24], out: &mut [u64; 82]) -> u64
 
 // What else can be asked without a clock: the eight registers, the lines, both interrupts.
 pub fn observe(state: &[u64; 75], args: &[u64; 24], out: &mut [u64; 82]) -> u64
-    ensures { (result ≡ 0) × Told 14 result out.old out.new }
+    ensures number { result ≡ 0 }
+    ensures told { Told 14 result out.old out.new }
 {
     let iic = iic_of(state);
     let address = args[2];
@@ -130,7 +133,8 @@ fn address_of(n: u64) -> u16 {
 }
 
 fn put_byte(b: Byte, out: &mut [u64; 82]) -> u64
-    ensures { (result ≡ byte_number b) × Told 10 result out.old out.new }
+    ensures number { result ≡ byte_number b }
+    ensures told { Told 10 result out.old out.new }
 {
     match b {
         Byte::Is(value) => put_word(value as u64, out),
@@ -139,7 +143,8 @@ fn put_byte(b: Byte, out: &mut [u64; 82]) -> u64
 }
 
 fn put_ended(ended: Ended, out: &mut [u64; 82]) -> u64
-    ensures { (result ≡ ended_number ended) × Told 10 result out.old out.new }
+    ensures number { result ≡ ended_number ended }
+    ensures told { Told 10 result out.old out.new }
 {
     match ended {
         Ended::Finished => put_refusal(0, out),
@@ -148,7 +153,8 @@ fn put_ended(ended: Ended, out: &mut [u64; 82]) -> u64
 }
 
 fn put_stepped(stepped: Stepped, state: &mut [u64; 75], out: &mut [u64; 82]) -> u64
-    ensures { (result ≡ ended_number stepped.ended) × Told 10 result out.old out.new }
+    ensures number { result ≡ ended_number stepped.ended }
+    ensures told { Told 10 result out.old out.new }
 {
     let ended = stepped.ended;
     put_iic(stepped.state, state);
@@ -161,7 +167,8 @@ fn shown(iic: Iic, address: u64, on: u64) -> u64 {
 }
 
 fn put_read(done: ReadOut, state: &mut [u64; 75], out: &mut [u64; 82]) -> u64
-    ensures { (result ≡ byte_number done.answer) × Told 10 result out.old out.new }
+    ensures number { result ≡ byte_number done.answer }
+    ensures told { Told 10 result out.old out.new }
 {
     let answer = done.answer;
     put_iic(done.state, state);
@@ -169,7 +176,8 @@ fn put_read(done: ReadOut, state: &mut [u64; 75], out: &mut [u64; 82]) -> u64
 }
 
 fn put_noticed(done: Noticed, state: &mut [u64; 75], out: &mut [u64; 82]) -> u64
-    ensures { (result ≡ truth_number done.answer) × Told 10 result out.old out.new }
+    ensures number { result ≡ truth_number done.answer }
+    ensures told { Told 10 result out.old out.new }
 {
     let answer = done.answer;
     put_iic(done.state, state);
@@ -186,7 +194,8 @@ fn put_shown(
     sda: u64,
     out: &mut [u64; 82],
 ) -> u64
-    ensures { (result ≡ 0) × Told 14 result out.old out.new }
+    ensures number { result ≡ 0 }
+    ensures told { Told 14 result out.old out.new }
 {
     out[0] = 0;
     out[1] = shown(iic, address, 0);

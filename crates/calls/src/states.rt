@@ -139,6 +139,7 @@ fn length_of(n: u64) -> u16
 }
 
 // The rate set that the words hold.
+#[tactic(auto, unfolding(crate::specs::States::rates_at))]
 pub(crate) fn rates_of(w: &[u64; 75]) -> Rates
     ensures { result ≡ rates_at w.now }
 {

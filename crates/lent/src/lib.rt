@@ -10,7 +10,8 @@ use iic::{Byte, Ended, Iic};
 use time::Time;
 
 pub fn read(p: &mut Iic, address: u16, time: Time, clocks: Clocks) -> Byte
-    ensures { (result ≡ (read_of p.old address time clocks).answer) × (p.new ≡ (read_of p.old address time clocks).state) }
+    ensures answer { result ≡ (read_of p.old address time clocks).answer }
+    ensures state { p.new ≡ (read_of p.old address time clocks).state }
 {
     let s = *p;
     let t = s.read(address, time, clocks);
@@ -19,7 +20,8 @@ pub fn read(p: &mut Iic, address: u16, time: Time, clocks: Clocks) -> Byte
 }
 
 pub fn write(p: &mut Iic, address: u16, value: u8, time: Time, clocks: Clocks) -> Ended
-    ensures { (result ≡ (write_of p.old address value time clocks).ended) × (p.new ≡ (write_of p.old address value time clocks).state) }
+    ensures ended { result ≡ (write_of p.old address value time clocks).ended }
+    ensures state { p.new ≡ (write_of p.old address value time clocks).state }
 {
     let s = *p;
     let t = s.write(address, value, time, clocks);
@@ -36,6 +38,7 @@ pub struct Both {
 }
 
 // A host that holds one peripheral in a local and lends it, to a write and then to a read.
+#[tactic(auto, unfolding(crate::specs::WriteRead::write_read_of))]
 pub fn write_read(
     s: Iic,
     address: u16,

@@ -20,7 +20,8 @@ fn clock_of(seconds: u64, fraction: u64, numerator: u64, denominator: u64) -> Cl
 }
 
 fn put_moment(m: Moment, out: &mut [u64; 2]) -> u64
-    ensures { (result ≡ moment_number m) × (out.new ≡ moment_in m out.old) }
+    ensures number { result ≡ moment_number m }
+    ensures words { out.new ≡ moment_in m out.old }
 {
     match m {
         Moment::At(t) => {
@@ -33,7 +34,8 @@ fn put_moment(m: Moment, out: &mut [u64; 2]) -> u64
 }
 
 fn put_count(c: Count, out: &mut [u64; 1]) -> u64
-    ensures { (result ≡ count_number c) × (out.new ≡ count_in c out.old) }
+    ensures number { result ≡ count_number c }
+    ensures words { out.new ≡ count_in c out.old }
 {
     match c {
         Count::Of(n) => {
@@ -54,7 +56,8 @@ pub extern "C" fn probe_after(
     edges: u64,
     out: &mut [u64; 2],
 ) -> u64
-    ensures { (result ≡ moment_number (after_of (clock_of seconds fraction numerator denominator) edges)) × (out.new ≡ moment_in (after_of (clock_of seconds fraction numerator denominator) edges) out.old) }
+    ensures number { result ≡ moment_number (after_of (clock_of seconds fraction numerator denominator) edges) }
+    ensures words { out.new ≡ moment_in (after_of (clock_of seconds fraction numerator denominator) edges) out.old }
 {
     put_moment(
         clock_of(seconds, fraction, numerator, denominator).after(edges),
@@ -73,7 +76,8 @@ pub extern "C" fn probe_edges_before(
     limit_fraction: u64,
     out: &mut [u64; 1],
 ) -> u64
-    ensures { (result ≡ count_number (edges_before_of (clock_of seconds fraction numerator denominator) (time_from limit_seconds limit_fraction))) × (out.new ≡ count_in (edges_before_of (clock_of seconds fraction numerator denominator) (time_from limit_seconds limit_fraction)) out.old) }
+    ensures number { result ≡ count_number (edges_before_of (clock_of seconds fraction numerator denominator) (time_from limit_seconds limit_fraction)) }
+    ensures words { out.new ≡ count_in (edges_before_of (clock_of seconds fraction numerator denominator) (time_from limit_seconds limit_fraction)) out.old }
 {
     let limit = Time {
         seconds: limit_seconds,

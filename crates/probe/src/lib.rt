@@ -69,7 +69,8 @@ pub extern "C" fn probe_iic_fresh(state: &mut [u64; 75])
 // The same with the rate set that the state's words hold, and 14 where it is refused.
 #[unsafe(no_mangle)]
 pub extern "C" fn probe_iic_with_rates(state: &mut [u64; 75]) -> u64
-    ensures { (result ≡ (with_rates_of (rates_at state.old)).refusal) × Begins (register_words default_iic.registers) state.new }
+    ensures refusal { result ≡ (with_rates_of (rates_at state.old)).refusal }
+    ensures registers { Begins (register_words default_iic.registers) state.new }
 {
     calls::peripheral::with_rates(state)
 }
@@ -109,7 +110,8 @@ pub extern "C" fn probe_iic_validate(
 // What else can be asked of the peripheral.
 #[unsafe(no_mangle)]
 pub extern "C" fn probe_iic_observe(state: &[u64; 75], args: &[u64; 24], out: &mut [u64; 82]) -> u64
-    ensures { (result ≡ 0) × Told 14 result out.old out.new }
+    ensures number { result ≡ 0 }
+    ensures told { Told 14 result out.old out.new }
 {
     calls::peripheral::observe(state, args, out)
 }
