@@ -5,7 +5,7 @@ use Rattle.time.specs.declared.Time.{Time}
 use Rattle.time.specs.declared.Count.TheVariants.{Of}
 use Rattle.time.specs.Time.{time_of, next_time}
 use Rattle.clocks.specs.Clocks.{has_zero, tap_ticks}
-use Rattle.domain.specs.Domain.{domain_half_edge, domain_half_ticks, halves}
+use Rattle.domain.specs.Domain.{domain_half_edge, domain_half_ticks}
 use Rattle.clocks.specs.Wait.{edge_deadline}
 use Rattle.hosts.specs.Calls.{Call, outcome_of}
 use Rattle.clocks.specs.declared.Clocks.{Clocks}

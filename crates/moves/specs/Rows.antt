@@ -3,7 +3,6 @@ use Rattle.std.specs.Prelude.{ℕ, ◌-◌, ◌^◌, Bool, true, false, List, []
 use Rattle.std.proofs.Common.{lit<, lit≤}
 use Rattle.bus.specs.Bus.{levels}
 use Rattle.time.specs.declared.Time.{Time}
-use Rattle.time.specs.declared.Clock.{Clock}
 use Rattle.time.specs.Clock as Clock
 use Rattle.time.specs.Clock.{edges_before}
 use Rattle.time.proofs.Laws.{edges_before_is, none_before}

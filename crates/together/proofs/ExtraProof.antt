@@ -19,7 +19,7 @@ use Rattle.hosts.proofs.Kept.{good_after}
 use Rattle.iic.specs.State.{default_iic}
 use Rattle.iic.specs.Told.{is_refusal}
 use Rattle.iic.specs.declared.Iic.{Iic}
-use Rattle.bench.specs.Bench.{Run, after, next, start}
+use Rattle.bench.specs.Bench.{Run, after, next}
 use Rattle.bench.specs.Moments.{fresh_bench, state_in}
 use Rattle.together.proofs.CallLaws.{Below, made_below, states_after, states_by}
 use Rattle.together.specs.Calls.{Made, made, none, one, unit_in}

@@ -14,7 +14,7 @@ use Rattle.time.specs.Time.{same_time, time_of}
 use Rattle.time.specs.Truths.{by_cases, either, if_false, if_true}
 use Rattle.time.specs.declared.Time.{Time}
 use Rattle.rates.specs.Rates.{default_rates}
-use Rattle.hosts.specs.Calls.{Call, advance, deadline, input_pins, outcome_of}
+use Rattle.hosts.specs.Calls.{Call, advance, deadline, input_pins}
 use Rattle.iic.specs.State.{default_iic}
 use Rattle.iic.specs.declared.Iic.{Iic}
 use Rattle.answers.specs.Calls as player
