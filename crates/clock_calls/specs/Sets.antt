@@ -39,12 +39,12 @@ abbrev pub divider_at : List ℕ → ℕ → Divider
 divider_at w at = divider_by (get_or w at 0) (get_or w (at + 1) 0) (get_or w (at + 2) 0)
 
 -- prescaler S: its divider, and what each of its 13 stages emitted
-unfoldable pub prescaler_sat : List ℕ → PrescalerS
-prescaler_sat w = record { divider = divider_at w 54; emitted = words_at 13 w 57 }
+unfoldable pub prescaler_s_at : List ℕ → PrescalerS
+prescaler_s_at w = record { divider = divider_at w 54; emitted = words_at 13 w 57 }
 
 -- prescaler W: its divider, and what each of its 8 stages emitted
-unfoldable pub prescaler_wat : List ℕ → PrescalerW
-prescaler_wat w = record { divider = divider_at w 70; emitted = words_at 8 w 73 }
+unfoldable pub prescaler_w_at : List ℕ → PrescalerW
+prescaler_w_at w = record { divider = divider_at w 70; emitted = words_at 8 w 73 }
 
 -- the six domains, then the two prescalers
 unfoldable pub clocks_at : List ℕ → Clocks
@@ -55,6 +55,6 @@ clocks_at w = record {
   on_chip = domain_at w 27;
   oscillator = domain_at w 36;
   subclock = domain_at w 45;
-  prescaler_s = prescaler_sat w;
-  prescaler_w = prescaler_wat w;
+  prescaler_s = prescaler_s_at w;
+  prescaler_w = prescaler_w_at w;
 }

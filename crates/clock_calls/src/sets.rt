@@ -1,6 +1,6 @@
 // The clock sets.
 ghost use Rattle.std.specs.Prelude.{◌≤◌, ◌≡◌};
-ghost use Rattle.clock_calls.specs.Sets.{clocks_at, domain_at, prescaler_sat, prescaler_wat};
+ghost use Rattle.clock_calls.specs.Sets.{clocks_at, domain_at, prescaler_s_at, prescaler_w_at};
 ghost use Rattle.clock_calls.specs.Told.{Told, time_at};
 ghost use Rattle.clocks.specs.Moves.{move_system};
 
@@ -69,7 +69,7 @@ fn set_domain(set: &[u64; 81], at: usize) -> Domain
 }
 
 fn set_prescaler_s(set: &[u64; 81]) -> PrescalerS
-    ensures { result ≡ prescaler_sat set.now }
+    ensures { result ≡ prescaler_s_at set.now }
 {
     PrescalerS {
         divider: divider_of(set[54], set[55], set[56]),
@@ -81,7 +81,7 @@ fn set_prescaler_s(set: &[u64; 81]) -> PrescalerS
 }
 
 fn set_prescaler_w(set: &[u64; 81]) -> PrescalerW
-    ensures { result ≡ prescaler_wat set.now }
+    ensures { result ≡ prescaler_w_at set.now }
 {
     PrescalerW {
         divider: divider_of(set[70], set[71], set[72]),

@@ -10,7 +10,7 @@ use lib.ListN.{length, drop}
 use Rattle.lines.specs.Lines.{lines_in}
 use Rattle.search.specs.declared.Best.{Best}
 use Rattle.search.specs.Search.{Met, Sought}
-use Rattle.search.specs.SearchLaws.{Stands, stands, stands_end, stands_next, stands_within, few_none, few_on, few_fit, sought_none_yet, sought_on}
+use Rattle.search.proofs.SearchLaws.{Stands, stands, stands_end, stands_next, stands_within, few_none, few_on, few_fit, sought_none_yet, sought_on}
 use Rattle.search.proofs.best_run.Goals as goal
 
 played : {s : List ℕ} {ls : List (List ℕ)} {at n : ℕ} {lines : ℕ} → Stands s ls at n → lines ≤ length (lines_in true (drop at s)) → lines ≤ length (drop n ls)

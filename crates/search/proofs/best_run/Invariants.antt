@@ -3,7 +3,7 @@ use Prim.Native.Nat.{◌-◌}
 use lib.ListN.{length}
 use Rattle.lines.specs.Lines.{lines_in}
 use Rattle.search.specs.Search.{Sought}
-use Rattle.search.specs.SearchLaws.{Stands, Few}
+use Rattle.search.proofs.SearchLaws.{Stands, Few}
 use Rattle.search.proofs.best_run.Given as goal
 
 abbrev pub invariant-loop-at : goal.invariant-loop-at

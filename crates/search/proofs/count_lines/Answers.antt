@@ -1,7 +1,7 @@
 -- `search::count_lines` meets its contract: the lines from the place on are those after the lines counted.
 -- Assumes nothing.
 use native.Mathlib.Omega.{arith}
-use Rattle.search.specs.SearchLaws.{stands, stands_end, stands_next}
+use Rattle.search.proofs.SearchLaws.{stands, stands_end, stands_next}
 use Rattle.search.proofs.count_lines.Goals as goal
 
 pub loop-at-init : goal.loop-at-init

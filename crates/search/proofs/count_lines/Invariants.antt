@@ -2,7 +2,7 @@ use mathlib.Core.Bool.{true}
 use Prim.Native.Nat.{◌-◌, ◌≤◌}
 use lib.ListN.{length}
 use Rattle.lines.specs.Lines.{lines_in}
-use Rattle.search.specs.SearchLaws.{Stands}
+use Rattle.search.proofs.SearchLaws.{Stands}
 use Rattle.search.proofs.count_lines.Given as goal
 
 abbrev pub invariant-loop-at : goal.invariant-loop-at

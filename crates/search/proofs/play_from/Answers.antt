@@ -7,7 +7,7 @@ use Rattle.player.specs.declared.Player.{Player}
 use Rattle.lines.specs.LineLaws.{line_within}
 use Rattle.player.specs.Trace.{fresh_player}
 use Rattle.search.specs.Shortest.{unplayed}
-use Rattle.search.specs.SearchLaws.{stands, stands_end, stands_next, next_within, taken_next, playing, playing_on, met_none, met_here}
+use Rattle.search.proofs.SearchLaws.{stands, stands_end, stands_next, next_within, taken_next, playing, playing_on, met_none, met_here}
 use Rattle.search.proofs.play_from.Goals as goal
 
 pub loop-lines-init : goal.loop-lines-init

@@ -2,7 +2,7 @@ use mathlib.Core.Bool.{true}
 use Prim.Native.Nat.{◌-◌, ◌≤◌}
 use lib.ListN.{drop}
 use Rattle.lines.specs.Lines.{lines_in}
-use Rattle.search.specs.SearchLaws.{Stands, Playing}
+use Rattle.search.proofs.SearchLaws.{Stands, Playing}
 use Rattle.search.proofs.play_from.Given as goal
 
 abbrev pub invariant-loop-lines : goal.invariant-loop-lines

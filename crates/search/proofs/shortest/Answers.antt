@@ -9,8 +9,8 @@ use native.Mathlib.Omega.{arith}
 use Rattle.search.specs.declared.Found.{Found}
 use Rattle.search.specs.declared.Found.TheVariants.{Refused}
 use Rattle.search.specs.Shortest.{Answers, shortest_of}
-use Rattle.search.specs.ShortestLaws.{answer_is}
-use Rattle.search.specs.SearchLaws.{few_within, sought_answers, sought_most}
+use Rattle.search.proofs.ShortestLaws.{answer_is}
+use Rattle.search.proofs.SearchLaws.{few_within, sought_answers, sought_most}
 use Rattle.search.proofs.shortest.Goals as goal
 
 module _ (ls : List (List ℕ)) (number limit : ℕ) (found : Found) (plays : ℕ) where
@@ -19,26 +19,21 @@ module _ (ls : List (List ℕ)) (number limit : ℕ) (found : Found) (plays : �
   met a e w h = (e ∙ answer_is ls number limit a w, subst (λ (x : Found). Answers ls number limit x) (sym e) w, h)
 
 pub returns-then-limit-lines : goal.returns-then-limit-lines
-returns-then-limit-lines c = let n = c.count_lines-lines.ensures in let t = c.if-limit-lines.true in met _ _ _ _ 0 (Refused 17) refl (inl (omega arith, refl)) (omega arith)
+returns-then-limit-lines c = let n = c.count_lines-lines.ensures in met _ _ _ _ 0 (Refused 17) refl (inl (omega arith, refl)) (omega arith)
 
 pub returns-then-number-eq0 : goal.returns-then-number-eq0
 returns-then-number-eq0 c =
     let n = c.count_lines-lines.ensures in
-    let t = c.if-limit-lines.false in
-    let z = c.if-number-eq0.true in
     met _ _ _ _ 0 (Refused 18) refl (inr (omega arith, λ f m d. let p = d.refuses in omega arith, refl)) (omega arith)
 
 pub found-requires : goal.found-requires
 found-requires c =
     let n = c.count_lines-lines.ensures in
-    let t = c.if-limit-lines.false in
     let w = sought_most c.best_run-tried.ensures.0 in
     omega arith
 
 pub returns : goal.returns
 returns c =
     let n = c.count_lines-lines.ensures in
-    let t = c.if-limit-lines.false in
-    let z = c.if-number-eq0.false in
     let b = c.best_run-tried.ensures in
     met _ _ _ _ _ _ c.found.ensures (sought_answers b.0 (omega arith) _ (omega arith) (omega arith)) (few_within _ _ _ b.1 (omega arith))

@@ -3,7 +3,7 @@
 use mathlib.Core.Path.{sym, ap, ◌∙◌}
 use native.Mathlib.Omega.{arith}
 use Rattle.search.specs.Shortest.{one_number}
-use Rattle.search.specs.ShortestLaws.{within_limit}
+use Rattle.search.proofs.ShortestLaws.{within_limit}
 use Rattle.search.proofs.shortest_run.Goals as goal
 
 pub overflow_mul-result : goal.overflow_mul-result

@@ -15,7 +15,7 @@ use Rattle.answers.specs.Calls.{trace_clocks}
 use Rattle.search.specs.declared.Best.{Best}
 use Rattle.search.specs.declared.Found.TheVariants.{At, Refused}
 use Rattle.search.specs.Shortest.{unplayed, last_answer, drawn_by, Least, Never, Answers}
-use Rattle.search.specs.ShortestLaws.{less_or}
+use Rattle.search.proofs.ShortestLaws.{less_or}
 use Rattle.search.specs.Search.{Hit, Met, kept_of, found_of, Sought}
 
 -- ## Lines one at a time

@@ -5,7 +5,7 @@ use Rattle.std.proofs.Common.{inr, ⊎_elim, arith}
 use Rattle.search.specs.declared.Found.{Found}
 use Rattle.search.specs.declared.Found.TheVariants.{At, Refused}
 use Rattle.search.specs.Shortest.{shortest_of, Answers}
-use Rattle.search.specs.ShortestLaws.{shortest_answers, answer_is, least, least_only}
+use Rattle.search.proofs.ShortestLaws.{shortest_answers, answer_is, least, least_only}
 
 module _ (ls : List (List ℕ)) (number small large : ℕ) (h : small ≤ large) where
   -- wherever the smaller limit finds a run, the larger finds the same

@@ -14,7 +14,7 @@ use Rattle.answers.specs.Calls.{trace_clocks}
 use Rattle.search.specs.declared.Found.{Found}
 use Rattle.search.specs.declared.Found.TheVariants.{At, Refused}
 use Rattle.search.specs.Shortest.{unplayed, last_answer, drawn_by, run_at, earliest_of, least_of, shortest_of}
-use Rattle.search.specs.ShortestLaws.{less_or}
+use Rattle.search.proofs.ShortestLaws.{less_or}
 
 -- lines, each cut to its first 65 bytes
 pub cut : List (List ℕ) → List (List ℕ)

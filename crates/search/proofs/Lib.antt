@@ -1,0 +1,4 @@
+pub mod ShortestLaws
+pub mod SearchLaws
+pub mod LimitLaws
+pub mod CutLaws
