@@ -22,6 +22,7 @@ fn unit_of(n: u8) -> Unit
     if none { Unit::Nobody } else { Unit::Number(n) }
 }
 
+#[tactic(auto, unfolding(crate::specs::Made::range_of_word))]
 fn range_of(word: u64) -> Range
     ensures { result ≡ range_of_word word }
 {
@@ -59,6 +60,7 @@ pub extern "C" fn made_unit(words: &[u64; 64], count: usize, address: u16) -> u6
 }
 
 // A peripheral at its default but for SAR.
+#[tactic(auto, unfolding(crate::specs::Made::unit_with))]
 fn unit_with(sar: u8) -> Iic
     ensures { result ≡ unit_with sar }
 {
@@ -69,6 +71,7 @@ fn unit_with(sar: u8) -> Iic
 }
 
 // Four that can be told apart.
+#[tactic(auto, unfolding(crate::specs::Made::four_units))]
 fn four_units() -> [Iic; 4]
     ensures { result ≡ four_units }
 {
