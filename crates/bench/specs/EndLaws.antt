@@ -2,7 +2,7 @@
 -- Assumes nothing.
 use Prim.Native.Nat.{ℕ, zero, suc, ◌+◌, ◌-◌, ◌*◌, ◌≤◌, ◌<◌}
 use Rattle.std.proofs.Math.Bool.{Bool, true, false, cond}
-use Rattle.std.specs.Prelude.{◌&&◌, ◌||◌, ◌⊎◌, ◌≡◌, leb, ltb, drop, get_or, set}
+use Rattle.std.specs.Prelude.{◌&&◌, ◌||◌, ◌≡◌, leb, ltb, drop, get_or, set}
 use Rattle.std.proofs.Common.{true≢false, sym, ◌∙◌}
 use Rattle.std.proofs.lemmas.Bool.{false≢true}
 use mathlib.Core.List.{List, [], ◌∷◌, append-nil}
@@ -29,7 +29,6 @@ use Rattle.answers.specs.Calls.{outcome_of}
 use Rattle.bench.specs.declared.Bench.{Bench}
 use Rattle.bench.specs.declared.Doing.{Doing}
 use Rattle.bench.specs.declared.Doing.TheVariants.{Looks, Visits, Plays, Reports, Ended}
-use Rattle.script.specs.declared.Next.TheVariants.{NoLine}
 use Rattle.bench.specs.declared.Step.{Step}
 use Rattle.bench.specs.declared.Turn.{Turn}
 use Rattle.script.specs.declared.Judged.{Judged}

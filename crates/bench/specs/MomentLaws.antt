@@ -1,6 +1,6 @@
 -- Laws: the moment that a bench goes to is one that a unit names, and that is then due, or the next script line (`moment_due`).
 -- Assumes nothing.
-use Prim.Native.Nat.{ℕ, ◌+◌, ◌-◌, ◌≤◌, ◌<◌}
+use Prim.Native.Nat.{ℕ, ◌+◌, ◌≤◌, ◌<◌}
 use Rattle.std.proofs.Math.Bool.{Bool, true, false, cond}
 use Rattle.std.specs.Prelude.{not, ◌&&◌, ◌||◌, ◌⊎◌, leb}
 use Rattle.std.proofs.Common.{true≢false, sym, ap, ◌∙◌, subst, arith, ltb-true, ltb-false, leb-true, leb-false, le-ltb, le-leb, eq-eqb}

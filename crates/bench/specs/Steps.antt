@@ -16,7 +16,6 @@ use Rattle.bench.specs.declared.Bench.{Bench}
 use Rattle.bench.specs.declared.Doing.{Doing}
 use Rattle.bench.specs.declared.Doing.TheVariants.{Looks, Visits, Plays, Reports, Ended}
 use Rattle.script.specs.declared.Next.{Next}
-use Rattle.script.specs.declared.Next.TheVariants.{NoLine}
 use Rattle.bench.specs.declared.Step.{Step}
 use Rattle.bench.specs.declared.Told.TheVariants.{Nothing}
 use Rattle.bench.specs.declared.Turn.{Turn}
