@@ -22,7 +22,7 @@ module _ (s : Summary) (b : Run) (ended : s ≡ summary_of b) (four : length s.s
       (within s.states u d default_iic (omega arith) ∙ ap (λ (x : Summary). get_or x.states u default_iic) ended)
       g
 
-  pub handed-back :
+  pub handed_back :
       (d : Iic) (before after first second third fourth : List ℕ) →
       after ≡ over b before →
       Begins (register_words (get_or s.states 0 d).registers) first →
@@ -30,7 +30,7 @@ module _ (s : Summary) (b : Run) (ended : s ≡ summary_of b) (four : length s.s
       Begins (register_words (get_or s.states 2 d).registers) third →
       Begins (register_words (get_or s.states 3 d).registers) fourth →
       HandedBack b s.refusal before after (s.written ∷ s.lines ∷ []) first second third fourth
-  handed-back d before after first second third fourth text g0 g1 g2 g3 = record {
+  handed_back d before after first second third fourth text g0 g1 g2 g3 = record {
     refusal = ap (λ (x : Summary). x.refusal) ended;
     text = text;
     done = ap (λ (x : Summary). x.written ∷ x.lines ∷ []) ended;
