@@ -1,3 +1,4 @@
 pub mod Below
 pub mod Cursors
 pub mod Loops
+pub mod EndLaws

@@ -20,7 +20,7 @@ use Rattle.script.specs.declared.Next.TheVariants.{NoLine}
 use Rattle.bench.specs.declared.Step.{Step}
 use Rattle.bench.specs.declared.cursor.Cursor.{Cursor}
 use Rattle.bench.specs.Bench.{Run, after, has_ended, next, over, ran, start, summary_by, summary_of, told_text, with_step}
-use Rattle.bench.specs.EndLaws.{after_last, ran_is, step_less}
+use Rattle.bench.proofs.EndLaws.{after_last, ran_is, step_less}
 use Rattle.bench.specs.Measure.{steps_left}
 use Rattle.bench.specs.Cursor.{cursor_after, cursor_at, left, next_at}
 use Rattle.script.specs.Script.{next_of}

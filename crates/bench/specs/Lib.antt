@@ -5,5 +5,4 @@ pub mod Steps
 pub mod Bench
 pub mod Measure
 pub mod MomentLaws
-pub mod EndLaws
 pub mod StepLaws

@@ -16,7 +16,7 @@ use Rattle.bench.specs.declared.Bench.{Bench}
 use Rattle.bench.specs.declared.Doing.{Doing}
 use Rattle.bench.specs.declared.Doing.TheVariants.{Looks, Visits, Plays, Reports, Ended}
 use Rattle.bench.specs.Bench.{Run, after, end_of, enough, has_ended, next, ran, start}
-use Rattle.bench.specs.EndLaws.{after_last, it_ends}
+use Rattle.bench.proofs.EndLaws.{after_last, it_ends}
 use Rattle.bench.specs.Moments.{fresh_bench, state_at}
 use Rattle.together.specs.Calls.{doing_in, run_at, unit_in}
 use Rattle.together.specs.Runs.{EqualOnBench, Shares, is_between, is_reporting}
