@@ -1,4 +1,3 @@
 pub mod Rates
 pub mod RateLaws
 pub mod RateRows
-pub mod LengthLaws

@@ -11,7 +11,7 @@ use Rattle.time.specs.Time.{earlier, same_time, time_of}
 use Rattle.time.specs.Truths.{by_cases, either}
 use Rattle.time.specs.declared.Time.{Time}
 use Rattle.waits.specs.Ahead.{Ahead, NotRefused}
-use Rattle.waits.specs.DueLaws.{ahead_both, sooner_unrefused}
+use Rattle.waits.proofs.DueLaws.{ahead_both, sooner_unrefused}
 use Rattle.waits.specs.Ends.{due_of, sooner}
 use Rattle.waits.specs.declared.Due.TheVariants as due
 use Rattle.hosts.specs.Calls.{is_now, outcome_of}

@@ -3,4 +3,3 @@ pub mod Ends
 pub mod SystemLaws
 pub mod Ahead
 pub mod AheadLaws
-pub mod DueLaws

@@ -42,7 +42,7 @@ use Rattle.waits.specs.declared.MaybeWait.{MaybeWait}
 use Rattle.rates.specs.declared.Rates.{Rates}
 use Rattle.waits.specs.Ahead.{Ahead, NotRefused}
 use Rattle.waits.specs.AheadLaws.{never_ahead}
-use Rattle.waits.specs.DueLaws.{ahead_both, sooner_ahead, sooner_due, sooner_unrefused}
+use Rattle.waits.proofs.DueLaws.{ahead_both, sooner_ahead, sooner_due, sooner_unrefused}
 use Rattle.wires.specs.Registers.{Allowed, control_is, read_keeps, write_keeps}
 use Rattle.wires.specs.RuleLaws.{later_lawful}
 use Rattle.wires.specs.Rules.{Keeps, LaterClock, Lawful, Monitored, Sound, Spaced, later}

@@ -36,11 +36,11 @@ use Rattle.waits.specs.declared.MaybeWait.TheVariants.{NoWait}
 use Rattle.waits.specs.declared.NewHalf.TheVariants as half
 use Rattle.rates.specs.declared.Rates.{Rates}
 use Rattle.waits.specs.AheadLaws.{counted_at_end, ends_first, half_started, never_not_at, paused_ahead, paused_is}
-use Rattle.waits.specs.DueLaws.{at_due, due_now}
+use Rattle.waits.proofs.DueLaws.{at_due, due_now}
 use Rattle.time.proofs.NextLaws.{same_of}
 use Rattle.wires.specs.Held.{accepted, any_condition, dropping, halve, no_monitor, prepare, unmonitored}
 use Rattle.wires.specs.Kicks.{start_clock, then_kick}
-use Rattle.rates.specs.LengthLaws.{monitor_some, period_some}
+use Rattle.rates.proofs.LengthLaws.{monitor_some, period_some}
 use Rattle.wires.specs.RuleLaws.{later_lawful, no_wait_ahead, started_later}
 use Rattle.wires.specs.Rules.{Keeps, LaterMonitor, Lawful, Monitored, Spaced, later}
 use Rattle.wires.specs.Statement.{InWord}

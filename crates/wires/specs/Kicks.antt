@@ -32,7 +32,7 @@ use Rattle.waits.specs.declared.MaybeHalf.TheVariants.{NoHalf, Half}
 use Rattle.waits.specs.declared.MaybeWait.TheVariants.{Waiting}
 use Rattle.rates.specs.declared.Rates.{Rates}
 use Rattle.wires.specs.Held.{accepted, beside_no_clock, dropping, halve, in_hold, prepare, unmonitored}
-use Rattle.rates.specs.LengthLaws.{period_some, setup_some}
+use Rattle.rates.proofs.LengthLaws.{period_some, setup_some}
 use Rattle.wires.specs.Rules.{Keeps, Lawful, Rules}
 use Rattle.iic.specs.TimingLaws.{begun, hold, load, next_frame, shown}
 use Rattle.wires.specs.Views.{View, unawaited}

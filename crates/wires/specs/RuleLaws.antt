@@ -33,7 +33,7 @@ use Rattle.waits.specs.Ahead.{Ahead}
 use Rattle.waits.specs.AheadLaws.{above_ahead, half_started, never_ahead, paused_ahead, refused_ahead, running_ahead, started_ahead, wait_started}
 use Rattle.time.specs.Truths.{either}
 use Rattle.domain.specs.HalfLaws.{half_ordinal}
-use Rattle.rates.specs.LengthLaws.{default_accepted, default_apart}
+use Rattle.rates.proofs.LengthLaws.{default_accepted, default_apart}
 use Rattle.wires.specs.Rules.{FirstClock, FirstHalf, FirstSetup, FirstState, FirstWait, LaterClock, LaterHalf, LaterMonitor, Lawful, Monitored, Spaced, later, starting}
 
 pub default_spaced : Spaced default_rates
