@@ -1,11 +1,11 @@
 -- Laws of a step that follows another one. Assumes nothing.
 use Prim.Native.Nat.{ℕ}
 use Rattle.domain.specs.declared.Domain.{Domain}
-use Rattle.frames.specs.Parts.{is_done, starved}
+use Rattle.frames.specs.Parts.{is_done, shown_count, starved}
 use Rattle.frames.specs.declared.Frame.{Frame}
 use Rattle.frames.specs.declared.Framing.TheVariants.{InFrame, NoFrame}
 use Rattle.frames.specs.declared.Framing.{Framing}
-use Rattle.iic.specs.Reading.{read_at}
+use Rattle.iic.specs.Reading.{peek_at, read_at}
 use Rattle.iic.specs.Writing.{write_at}
 use Rattle.iic.specs.Answers.{and_then, fine, go_on}
 use Rattle.iic.specs.Kick.{kick_of}
@@ -20,6 +20,7 @@ use Rattle.iic.specs.declared.Ended.TheVariants as ended
 use Rattle.iic.specs.declared.Ended.{Ended}
 use Rattle.iic.specs.declared.Iic.{Iic}
 use Rattle.iic.specs.declared.Stepped.{Stepped}
+use Rattle.registers.specs.Registers.{shown}
 use Rattle.registers.specs.declared.Register.TheVariants.{ICCR1, ICCR2, ICDRR, ICDRT, ICIER, ICMR, ICSR, SAR}
 use Rattle.registers.specs.declared.Register.{Register}
 use Rattle.time.specs.Truths.{unnot}
@@ -83,6 +84,19 @@ module _ (f : Iic → Stepped) (d z : Due) (x : Stepped) where
     idled a = idled_in o.ended o.state i h a
 
 -- ## Registers, where an arm names several or none
+
+-- what the registers' own definition shows, of the peripheral
+pub shown_is : (x : Register) (s : Iic) →
+    shown x s.lines.drive s.flags.busy s.flags.reset (shown_count s.frame s.registers.count) s.registers ≡ peek_at x s
+unfolding peek_at
+shown_is ICCR1 s = refl
+shown_is ICCR2 s = refl
+shown_is ICMR s = refl
+shown_is ICIER s = refl
+shown_is ICSR s = refl
+shown_is SAR s = refl
+shown_is ICDRT s = refl
+shown_is ICDRR s = refl
 
 pub not_taken : (x : Register) → (x ≡ ICSR → ⊥) → (x ≡ ICDRR → ⊥) → (now : Time) (k : Domain) (s : Iic) → fine s ≡ read_at x now k s
 unfolding read_at

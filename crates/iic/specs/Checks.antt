@@ -1,10 +1,9 @@
 -- Definitions: what a state must meet, and what it asks of its host (document 01, "Refused because of the state"; `validate`,
 -- `interrupt_with_enable`; numbers in brackets are lines of iic.rs).
-use Rattle.std.specs.Prelude.{◌+◌, ℕ, Bool, ◌&&◌, ◌||◌, cond, not, true}
-use Rattle.bus.specs.Bits.{flag, has}
+use Rattle.std.specs.Prelude.{◌+◌, ℕ, eqb, ltb, Bool, ◌&&◌, ◌||◌, cond, not, true}
+use Rattle.bus.specs.Bits.{flag, has, without}
 use Rattle.frames.specs.Parts.{progress_in}
-use Rattle.registers.specs.Registers as Registers
-use Rattle.registers.specs.Bits.{AL, NACKF, NAKIE, RDRF, STOP, TDRE, TEND}
+use Rattle.registers.specs.Bits.{AL, MLS, NACKF, NAKIE, RDRF, STOP, TDRE, TEND, WAIT}
 use Rattle.iic.specs.State.{synchronous}
 use Rattle.iic.specs.declared.Iic.{Iic}
 use Rattle.iic.specs.declared.EighthFall.{EighthFall}
@@ -18,7 +17,7 @@ use Rattle.std.specs.Int.Bits.{bit_and, bit_or}
 
 -- document 01, refused 9 where this doesn't hold: a count of at most 7, and no mode bits but MLS and WAIT (897)
 abbrev pub ranges_hold : Iic → Bool
-ranges_hold s = Registers.ranges_hold s.registers
+ranges_hold s = ltb s.registers.count 8 && eqb (without s.registers.mode (MLS + WAIT)) 0
 
 -- document 01, refused 10 where this doesn't hold (902)
 abbrev pub progress_holds : Iic → Bool

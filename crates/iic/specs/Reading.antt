@@ -1,18 +1,18 @@
 -- Definitions: the registers as the host reads them (document 01, Registers and steps; `peek`, `read_at`; numbers in brackets are lines of
 -- iic.rs), with what follows in time.
-use Rattle.std.specs.Prelude.{ℕ, Bool, ◌&&◌, ◌||◌, cond, false, not, true}
-use Rattle.bus.specs.Bits.{has}
+use Rattle.std.specs.Prelude.{ℕ, ◌+◌, Bool, ◌&&◌, ◌||◌, cond, false, not, true}
+use Rattle.std.specs.Int.Bits.{bit_or}
+use Rattle.bus.specs.Bits.{flag, has}
 use Rattle.domain.specs.declared.Domain.{Domain}
 use Rattle.frames.specs.Parts.{mark_in, shown_count}
 use Rattle.iic.specs.Answers.{and_then, fine}
-use Rattle.registers.specs.Bits.{RCVD}
+use Rattle.registers.specs.Bits.{BBSY, BCWP, IICRST, RCVD, RDRF, SCLO, SCP, SDAO, SDAOP}
 use Rattle.iic.specs.Kick.{kick_of, release_hold_of}
-use Rattle.iic.specs.Setters.{set_frame, set_receive_enabled, set_registers, set_seen, set_stale_release}
-use Rattle.iic.specs.State.{held, master, transmits}
+use Rattle.iic.specs.Setters.{set_frame, set_receive_enabled, set_seen, set_stale_release}
+use Rattle.iic.specs.State.{clear_flags, held, master, transmits}
 use Rattle.iic.specs.declared.EighthFall.{EighthFall}
 use Rattle.iic.specs.declared.EighthFall.TheVariants.{FellAt, NoFall}
 use Rattle.iic.specs.declared.Iic.{Iic}
-use Rattle.registers.specs.Registers.{data_taken, shown}
 use Rattle.registers.specs.declared.Register.{Register}
 use Rattle.registers.specs.declared.Register.TheVariants.{ICCR1, ICCR2, ICDRR, ICDRT, ICIER, ICMR, ICSR, SAR}
 use Rattle.iic.specs.declared.Stepped.{Stepped}
@@ -21,9 +21,21 @@ use Rattle.time.specs.declared.Time.{Time}
 
 -- ## `peek`: what a register shows (197)
 
--- ICCR2 shows the levels that are driven, ICMR how many bits of a frame are to go
+-- ICCR2: SCP, SDAOP and the reserved bits 0 and 2 read 1
+abbrev pub shown_control : Iic → ℕ
+shown_control s =
+    bit_or (bit_or (bit_or (bit_or (flag s.flags.busy BBSY) (SCP + SDAOP + 5)) (flag s.lines.drive.sda SDAO)) (flag s.lines.drive.scl SCLO)) (flag s.flags.reset IICRST)
+
+-- ICMR: BCWP and the reserved bits 4 and 5 read 1
 unfoldable pub peek_at : Register → Iic → ℕ
-peek_at r s = shown r s.lines.drive s.flags.busy s.flags.reset (shown_count s.frame s.registers.count) s.registers
+peek_at ICCR1 s = s.registers.control
+peek_at ICCR2 s = shown_control s
+peek_at ICMR s = bit_or (bit_or s.registers.mode (BCWP + 0x30)) (shown_count s.frame s.registers.count)
+peek_at ICIER s = s.registers.enable
+peek_at ICSR s = s.registers.status
+peek_at SAR s = s.registers.address
+peek_at ICDRT s = s.registers.tdr
+peek_at ICDRR s = s.registers.rdr
 
 -- ## `read_at`: ICDRR
 
@@ -35,7 +47,7 @@ fell_now (FellAt t) now = same_time t now
 -- ICSR's RDRF is cleared, and a read at the very time of the eighth fall is noted (231)
 unfoldable pub taken_of : Time → Iic → Iic
 taken_of now s =
-    set_registers (data_taken s.registers) (set_stale_release (s.flags.stale_release || fell_now s.eighth_fall now) s)
+    clear_flags RDRF (set_stale_release (s.flags.stale_release || fell_now s.eighth_fall now) s)
 
 -- a master's receive goes on, and ICCR1's RCVD says whether the byte under way is its last (237)
 unfoldable pub continued_of : Iic → Iic

@@ -6,7 +6,7 @@ use Rattle.bus.specs.Bus.{levels}
 use Rattle.frames.specs.declared.Framing.{Framing}
 use Rattle.frames.specs.declared.Framing.TheVariants.{InFrame, NoFrame}
 use Rattle.registers.specs.Bits.{FS, ICE, MST, TRS}
-use Rattle.iic.specs.Setters.{set_clock_wait, set_command, set_condition, set_control, set_drive, set_frame, set_hold, set_monitor_wait, set_receive_enabled, set_receive_stopped, set_setup_wait, set_status, set_synchronized_hold}
+use Rattle.iic.specs.Setters.{set_clock_wait, set_command, set_condition, set_control, set_drive, set_frame, set_hold, set_monitor_wait, set_receive_enabled, set_receive_stopped, set_seen, set_setup_wait, set_status, set_synchronized_hold}
 use Rattle.iic.specs.declared.Command.{Command}
 use Rattle.iic.specs.declared.Command.TheVariants.{Commanded, NoCommand}
 use Rattle.iic.specs.declared.Condition.{Condition}
@@ -131,6 +131,10 @@ is_transmit_hold Receive = false
 -- the flags of the mask m are raised
 abbrev pub raise : ℕ → Iic → Iic
 raise m s = set_status (bit_or s.registers.status m) s
+
+-- the flags of the mask m are cleared in ICSR and in `seen` (231, 355)
+abbrev pub clear_flags : ℕ → Iic → Iic
+clear_flags m s = set_status (without s.registers.status m) (set_seen (without s.registers.seen m) s)
 
 -- the bits of the mask m of ICCR1 are cleared
 abbrev pub clear_control : ℕ → Iic → Iic

@@ -1,26 +1,25 @@
 -- Definitions: the registers as the host writes them (document 01, Registers and steps; `write`; numbers in brackets are lines of iic.rs),
 -- with what follows in time.
 use Rattle.std.specs.Prelude.{◌+◌, ℕ, eqb, Bool, ◌&&◌, cond, false, not, true}
-use Rattle.bus.specs.Bits.{flag, has}
+use Rattle.bus.specs.Bits.{flag, has, without}
+use Rattle.frames.specs.Mirror.{ordered}
 use Rattle.domain.specs.declared.Domain.{Domain}
 use Rattle.frames.specs.Parts.{is_done_in, recount_in, redirect_in}
 use Rattle.iic.specs.Answers.{and_then, fine}
-use Rattle.registers.specs.Bits.{ACKE, BBSY, BC, BCWP, FS, IICRST, MLS, MST, RCVD, SCP, SDAO, SDAOP, TDRE, TRS, WAIT}
+use Rattle.registers.specs.Bits.{ACKBR, ACKE, BBSY, BC, BCWP, FS, IICRST, MLS, MST, RCVD, SCP, SDAO, SDAOP, TDRE, TEND, TRS, WAIT}
 use Rattle.iic.specs.Kick.{kick_of, release_hold_of}
-use Rattle.iic.specs.Setters.{set_address, set_busy, set_command, set_control, set_count, set_filter_wait, set_frame, set_mode, set_receive_enabled, set_receive_stopped, set_registers, set_reset}
+use Rattle.iic.specs.Setters.{set_address, set_busy, set_command, set_control, set_count, set_enable, set_filter_wait, set_frame, set_mode, set_receive_enabled, set_receive_stopped, set_reset, set_seen, set_status, set_tdr}
 use Rattle.iic.specs.Shift.{load_transmit_of}
-use Rattle.iic.specs.State.{drive_sda, enabled, framed, is_transmit_hold, master, raise, stop_shifter_of, synchronous, transmits}
+use Rattle.iic.specs.State.{clear_flags, drive_sda, enabled, framed, is_transmit_hold, master, raise, stop_shifter_of, synchronous, transmits}
 use Rattle.iic.specs.Waiting.{schedule_filter_of}
 use Rattle.iic.specs.declared.Command.TheVariants.{Commanded}
 use Rattle.iic.specs.declared.Iic.{Iic}
-use Rattle.registers.specs.Registers as Registers
-use Rattle.registers.specs.Registers.{data_given, enable_written, status_written}
 use Rattle.registers.specs.declared.Register.{Register}
 use Rattle.registers.specs.declared.Register.TheVariants.{ICCR1, ICCR2, ICDRR, ICDRT, ICIER, ICMR, ICSR, SAR}
 use Rattle.iic.specs.declared.Stepped.{Stepped}
 use Rattle.time.specs.declared.Time.{Time}
 use Rattle.waits.specs.declared.MaybeWait.TheVariants.{NoWait}
-use Rattle.std.specs.Int.Bits.{bit_and}
+use Rattle.std.specs.Int.Bits.{bit_and, bit_or}
 
 -- ## `write`: ICCR1
 
@@ -105,15 +104,15 @@ write_mode_of value s =
 
 -- ICIER: ACKBR is read only (336)
 unfoldable pub write_enable_of : ℕ → Iic → Iic
-write_enable_of value s = set_registers (enable_written value s.registers) s
+write_enable_of value s = set_enable (bit_or (without value ACKBR) (bit_and s.registers.enable ACKBR)) s
 
 -- ICSR, document 01: a status write clears flags both in `seen` and written 0 (338)
 abbrev pub status_left : ℕ → Iic → ℕ
-status_left value s = Registers.status_left value s.registers
+status_left value s = without s.registers.status (without s.registers.seen value)
 
 -- and `seen` keeps what is left (339)
 unfoldable pub write_status_of : ℕ → Iic → Iic
-write_status_of value s = set_registers (status_written value s.registers) s
+write_status_of value s = set_status (status_left value s) (set_seen (bit_and s.registers.seen (status_left value s)) s)
 
 -- SAR: BBSY is 0 in synchronous mode (343)
 unfoldable pub write_address_of : ℕ → Iic → Iic
@@ -121,7 +120,7 @@ write_address_of value s = set_address value (set_busy (s.flags.busy && not (has
 
 -- ICDRT, in ICMR's bit order; TDRE and TEND are cleared in ICSR and in `seen` (350)
 unfoldable pub give_data_of : ℕ → Iic → Iic
-give_data_of value s = set_registers (data_given value s.registers) s
+give_data_of value s = set_tdr (ordered (has s.registers.mode MLS) value) (clear_flags (TDRE + TEND) s)
 
 -- the byte goes to a frame that SCL was held for (357)
 unfoldable pub send_on_of : Time → Domain → Iic → Stepped
