@@ -24,26 +24,36 @@ use Rattle.lines.specs.declared.Last.{Last}
 use Rattle.answers.specs.declared.Shown.{Shown}
 use Rattle.answers.specs.declared.Shown.TheVariants.{Nobody}
 use Rattle.lines.specs.declared.Verb.TheVariants.{Visit}
+use Rattle.lines.specs.Lines.{may_follow}
 use Rattle.lines.specs.NumberLaws.{below_or_not}
 use Rattle.answers.specs.Calls.{outcome_of}
 use Rattle.bench.specs.declared.Bench.{Bench}
 use Rattle.bench.specs.declared.Doing.{Doing}
 use Rattle.bench.specs.declared.Doing.TheVariants.{Looks, Visits, Plays, Reports, Ended}
+use Rattle.bench.specs.declared.Place.{Place}
 use Rattle.bench.specs.declared.Step.{Step}
 use Rattle.bench.specs.declared.Turn.{Turn}
+use Rattle.script.specs.declared.Next.{Next}
+use Rattle.script.specs.declared.Next.TheVariants.{NoLine, Malformed, Calls}
 use Rattle.script.specs.declared.Judged.{Judged}
 use Rattle.script.specs.declared.Judged.TheVariants as judged
 use Rattle.bench.specs.Bench.{Run, after, enough, has_ended, next, ran, start, with_step}
 use Rattle.bench.specs.MomentLaws.{left, moment_due, next_from, no, none_from, same_self}
 use Rattle.bench.specs.Measure.{due_from, line_due, most_of, steps_by, steps_left, unit_due}
 use Rattle.script.specs.Script.{next_of}
-use Rattle.bench.specs.Steps.{goes, goes_to, look_of, play_now_of, play_of, reports_of, seek_by, seek_of, step_by, step_of, to_reports, turned, turned_away, unless_bad, unmarked, visits_of}
-use Rattle.script.specs.Script.{judged_by}
-use Rattle.bench.specs.Turns.{passed_by, play_line_of, played_by, report_of, shown_by, visit_due_of, visit_of, visited_by}
+use Rattle.bench.specs.Steps.{goes, goes_to, judged_as, judged_by, look_of, play_now_of, play_of, reports_of, seek_by, seek_of, step_by, step_of, to_reports, turned, turned_away, unless_bad, unmarked, visits_of}
+use Rattle.bench.specs.Turns.{passed_by, play_line_of, played_by, report_of, set_doing, shown_by, visit_due_of, visit_of, visited_by}
 use Rattle.bench.specs.Moments.{fresh_bench, moment_of, mark_of, state_at}
 use Rattle.units.specs.Units.{is_named, is_present}
 
 -- ## Each step leaves fewer steps
+
+-- how a line is judged depends on the last one alone
+judged_same : (count : ℕ) (n : Next) (p q : Place) → p.last ≡ q.last → judged_by count n p ≡ judged_by count n q
+unfolding judged_by judged_as
+judged_same count NoLine p q e = refl
+judged_same count Malformed p q e = refl
+judged_same count (Calls u c) p q e = ap (λ (l : Last). cond (leb count u) judged.Unread (cond (may_follow l c.time) (judged.Plays u c) (judged.Early u))) e
 
 three : (b : Bool) → (3 ≤ cond b 3 18) × (cond b 3 18 ≤ 18)
 three true = (omega arith, omega arith)
@@ -72,7 +82,7 @@ set_own (x ∷ ss) (suc u) d = ap (λ (l : List Iic). x ∷ l) (set_own ss u d)
 
 module _ (k : Clocks) (count : ℕ) (small : count ≤ 4) (free number : ℕ) (ls : List (List ℕ)) (b : Bench) where
   abbrev j : Judged
-  j = judged_by count (next_of ls) b.place.last
+  j = judged_by count (next_of ls) b.place
 
   -- the steps left after one
   abbrev then : Step → ℕ
@@ -87,7 +97,7 @@ module _ (k : Clocks) (count : ℕ) (small : count ≤ 4) (free number : ℕ) (l
   unfolding judged_by
   fewer x e n = go ls e
     where
-      go : (l : List (List ℕ)) → judged_by count (next_of l) b.place.last ≡ x → 16 + most_of b (drop 1 l) ≡ most_of b l
+      go : (l : List (List ℕ)) → judged_by count (next_of l) b.place ≡ x → 16 + most_of b (drop 1 l) ≡ most_of b l
       go [] e = absurd (n (sym e))
       go (y ∷ l) e = sum (65536 - b.place.visits) (length l)
         where
@@ -114,10 +124,10 @@ module _ (k : Clocks) (count : ℕ) (small : count ≤ 4) (free number : ℕ) (l
       steps : (t : Time) (c : Bool) → is_present p t ≡ c → moment_of k count p line b ≡ At t → steps_left k count (left k count p t b c) ls < most_of b ls + 8
       steps t true f e =
           let d : (due_from (unit_due k count t (left k count p t b true)) 0 || line_due t j) ≡ true = there t true f e in
-          simp (d) (omega arith)
+          simp (judged_same count (next_of ls) (left k count p t b true).place b.place refl, d) (omega arith)
       steps t false f e =
           let d : (due_from (unit_due k count t (left k count p t b false)) 0 || line_due t j) ≡ true = there t false f e in
-          simp (d) (omega arith)
+          simp (judged_same count (next_of ls) (left k count p t b false).place b.place refl, d) (omega arith)
 
       go : (m : Deadline) → moment_of k count p line b ≡ m → then (seek_by p b m) < most_of b ls + 8
       go Never e = ends 0 _ b (omega arith)
@@ -125,9 +135,9 @@ module _ (k : Clocks) (count : ℕ) (small : count ≤ 4) (free number : ℕ) (l
       go (At t) e = by_cases (λ (s : Step). then s < most_of b ls + 8) (is_present p t) (λ f. steps t true f e) (λ f. steps t false f e)
 
   -- the steps left where the doing is known
-  left_by : (c : Bench) (l : List (List ℕ)) (d : Doing) → c.place.doing ≡ d → steps_left k count c l ≡ steps_by k count c (judged_by count (next_of l) c.place.last) (most_of c l) d
+  left_by : (c : Bench) (l : List (List ℕ)) (d : Doing) → c.place.doing ≡ d → steps_left k count c l ≡ steps_by k count c (judged_by count (next_of l) c.place) (most_of c l) d
   unfolding steps_left
-  left_by c l d e = ap (steps_by k count c (judged_by count (next_of l) c.place.last) (most_of c l)) e
+  left_by c l d e = ap (steps_by k count c (judged_by count (next_of l) c.place) (most_of c l)) e
 
   look_less : (p : Last) → b.place.doing ≡ Looks p → then (look_of k count free number (next_of ls) p b) < most_of b ls + 8
   unfolding look_of
@@ -167,17 +177,17 @@ module _ (k : Clocks) (count : ℕ) (small : count ≤ 4) (free number : ℕ) (l
       all : count ≤ u → Less (goes (Plays t) b)
       all h =
           let none : due_from (unit_due k count t b) u ≡ false = none_from (unit_due k count t b) u (λ v g. ap (λ (x : Bool). x && is_named k t (mark_of b.place v) (state_at b v)) (le-ltb v count (omega arith))) in
-          simp (none) (omega (arith, both (line_due t j)))
+          simp (judged_same count (next_of ls) (set_doing (Plays t) b.place) b.place refl, none) (omega (arith, both (line_due t j)))
 
       passed : u < count → is_named k t (mark_of b.place u) (state_at b u) ≡ false → Less (turned u (passed_by (Visits t (u + 1)) b.place (state_at b u)) b)
       passed h n =
           let undue : unit_due k count t b u ≡ false = ap (λ (x : Bool). ltb u count && x) n ∙ no (ltb u count) in
-          simp (set_own b.states u default_iic, next_from (unit_due k count t b) u undue) (omega (arith, (three due).0))
+          simp (set_own b.states u default_iic, judged_same count (next_of ls) (set_doing (Visits t (u + 1)) b.place) b.place refl, next_from (unit_due k count t b) u undue) (omega (arith, (three due).0))
 
       visited : u < count → b.place.visits < 65536 → Less (turned u (visited_by t u (outcome_of k t (state_at b u) Visit) b.place) b)
       visited h v =
           let c : Bench = (turned u (visited_by t u (outcome_of k t (state_at b u) Visit) b.place) b).bench in
-          spent (due_from (unit_due k count t c) (u + 1) || line_due t (judged_by count (next_of ls) c.place.last)) due (most_of b ls) (most_of c ls) u (one b.place.visits (length ls) v) (omega arith)
+          spent (due_from (unit_due k count t c) (u + 1) || line_due t (judged_by count (next_of ls) c.place)) due (most_of b ls) (most_of c ls) u (one b.place.visits (length ls) v) (omega arith)
 
   play_less : (t : Time) → b.place.doing ≡ Plays t → then (play_of k count free number (next_of ls) t b) < most_of b ls + cond (line_due t j) 2 17
   unfolding play_of play_now_of play_line_of steps_left
@@ -187,7 +197,7 @@ module _ (k : Clocks) (count : ℕ) (small : count ≤ 4) (free number : ℕ) (l
       fewer_left : (x : Judged) → j ≡ x → (x ≡ judged.NoLine → ⊥) → (c : Bench) → c.place.doing ≡ Plays t → c.place.visits ≡ b.place.visits
           → steps_left k count c (drop 1 ls) < most_of b ls + 2
       fewer_left x f n c g v =
-          let due : Bool = line_due t (judged_by count (next_of (drop 1 ls)) c.place.last) in
+          let due : Bool = line_due t (judged_by count (next_of (drop 1 ls)) c.place) in
           let h : steps_left k count c (drop 1 ls) ≡ most_of c (drop 1 ls) + cond due 2 17 = left_by c (drop 1 ls) (Plays t) g in
           let same : most_of c (drop 1 ls) ≡ most_of b (drop 1 ls) = ap (λ (y : ℕ). 16 * ((65536 - y) + length (drop 1 ls))) v in
           omega (arith, (two due).1, fewer x f n)

@@ -9,7 +9,7 @@ use Rattle.bench.specs.declared.Doing.TheVariants.{Looks, Visits, Plays, Reports
 use Rattle.script.specs.declared.Judged.{Judged}
 use Rattle.script.specs.declared.Judged.TheVariants as judged
 use Rattle.script.specs.Script.{next_of}
-use Rattle.script.specs.Script.{judged_by}
+use Rattle.bench.specs.Steps.{judged_by}
 use Rattle.units.specs.Units.{is_named}
 use Rattle.bench.specs.Moments.{mark_of, state_at}
 
@@ -41,4 +41,4 @@ abbrev pub most_of : Bench → List (List ℕ) → ℕ
 most_of b lines = 16 * ((65536 - b.place.visits) + length lines)
 
 unfoldable pub steps_left : Clocks → ℕ → Bench → List (List ℕ) → ℕ
-steps_left k count b lines = steps_by k count b (judged_by count (next_of lines) b.place.last) (most_of b lines) b.place.doing
+steps_left k count b lines = steps_by k count b (judged_by count (next_of lines) b.place) (most_of b lines) b.place.doing

@@ -22,8 +22,7 @@ use Rattle.bench.specs.declared.Told.TheVariants.{Nothing}
 use Rattle.bench.specs.declared.Turn.{Turn}
 use Rattle.script.specs.declared.Judged.{Judged}
 use Rattle.script.specs.declared.Judged.TheVariants as judged
-use Rattle.bench.specs.Steps.{goes_to, look_of, play_now_of, play_of, reports_of, seek_by, seek_of, step_by, step_of, to_reports, turned, turned_away, unless_bad, visits_of}
-use Rattle.script.specs.Script.{judged_by}
+use Rattle.bench.specs.Steps.{goes_to, judged_by, look_of, play_now_of, play_of, reports_of, seek_by, seek_of, step_by, step_of, to_reports, turned, turned_away, unless_bad, visits_of}
 use Rattle.bench.specs.Turns.{play_line_of, report_of, shown_by, visit_due_of, visit_of}
 use Rattle.units.specs.Units.{is_named, is_present}
 use Rattle.bench.specs.Moments.{mark_of, moment_of, state_at}
@@ -58,11 +57,11 @@ module _ (k : Clocks) (count free number : ℕ) (b : Bench) where
         lines none plays h g (judged.Plays u c) = g u c
 
         go : (d : Doing) → Quiet (step_by k count free number n b d)
-        go (Looks p) = lines (seek_of k count p Never b) (λ u c. seek_of k count p (At c.time) b) (seek_quiet p Never).0 (λ u c. (seek_quiet p (At c.time)).0) (judged_by count n b.place.last)
+        go (Looks p) = lines (seek_of k count p Never b) (λ u c. seek_of k count p (At c.time) b) (seek_quiet p Never).0 (λ u c. (seek_quiet p (At c.time)).0) (judged_by count n b.place)
         go (Visits t u) = either Quiet (leb count u) refl (either (λ (x : Turn). Quiet (turned u x b)) (is_named k t (mark_of b.place u) (state_at b u)) (rw full refl) refl)
         go (Plays t) =
             lines (to_reports count t b) (λ u c. play_now_of k count free number t u c b) refl
-            (λ u c. either Quiet (same_time c.time t) (rw full refl) refl) (judged_by count n b.place.last)
+            (λ u c. either Quiet (same_time c.time t) (rw full refl) refl) (judged_by count n b.place)
         go (Reports t w u) = either Quiet (leb count u) refl (rw full refl)
         go (Ended m) = refl
 

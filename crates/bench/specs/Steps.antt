@@ -10,19 +10,21 @@ use Rattle.time.specs.Time.{same_time}
 use Rattle.lines.specs.declared.Call.{Call}
 use Rattle.lines.specs.declared.Last.{Last}
 use Rattle.lines.specs.declared.Last.TheVariants.{After}
+use Rattle.lines.specs.Lines.{may_follow}
 use Rattle.answers.specs.declared.Shown.{Shown}
 use Rattle.answers.specs.declared.Shown.TheVariants.{Nobody}
 use Rattle.bench.specs.declared.Bench.{Bench}
 use Rattle.bench.specs.declared.Doing.{Doing}
 use Rattle.bench.specs.declared.Doing.TheVariants.{Looks, Visits, Plays, Reports, Ended}
 use Rattle.script.specs.declared.Next.{Next}
+use Rattle.script.specs.declared.Next.TheVariants.{NoLine, Malformed, Calls}
+use Rattle.bench.specs.declared.Place.{Place}
 use Rattle.bench.specs.declared.Step.{Step}
 use Rattle.bench.specs.declared.Told.TheVariants.{Nothing}
 use Rattle.bench.specs.declared.Turn.{Turn}
 use Rattle.script.specs.declared.Judged.{Judged}
 use Rattle.script.specs.declared.Judged.TheVariants as judged
 use Rattle.bench.specs.Turns.{play_line_of, report_of, set_doing, shown_by, unplayed_by, visit_of}
-use Rattle.script.specs.Script.{judged_by}
 use Rattle.units.specs.Units.{is_present}
 use Rattle.bench.specs.Moments.{moment_of, state_at, wires_of}
 
@@ -37,6 +39,16 @@ abbrev pub turned : ℕ → Turn → Bench → Step
 turned u t b = record { bench = record { states = set b.states u t.state; place = t.place }; told = t.told; answered = t.answered }
 
 -- ## Script lines
+
+-- "a malformed line or a unit that the bench lacks draws 4, an earlier time 5"
+unfoldable pub judged_as : ℕ → ℕ → Call → Place → Judged
+judged_as count u c p =
+    cond (leb count u) judged.Unread (cond (may_follow p.last c.time) (judged.Plays u c) (judged.Early u))
+
+unfoldable pub judged_by : ℕ → Next → Place → Judged
+judged_by count NoLine p = judged.NoLine
+judged_by count Malformed p = judged.Unread
+judged_by count (Calls u c) p = judged_as count u c p
 
 -- a line that isn't played "comes right after the line before it"; 6 where fewer than 80 bytes are free
 unfoldable pub turned_away : ℕ → Shown → ℕ → ℕ → Bench → Step
@@ -73,7 +85,7 @@ seek_of k count present line b = seek_by present b (moment_of k count present li
 
 unfoldable pub look_of : Clocks → ℕ → ℕ → ℕ → Next → Last → Bench → Step
 look_of k count free number next present b =
-    unless_bad number free b (seek_of k count present Never b) (λ u c. seek_of k count present (At c.time) b) (judged_by count next b.place.last)
+    unless_bad number free b (seek_of k count present Never b) (λ u c. seek_of k count present (At c.time) b) (judged_by count next b.place)
 
 -- ## Visits, script lines of the moment, reports
 
@@ -91,7 +103,7 @@ play_now_of k count free number t u c b =
 
 unfoldable pub play_of : Clocks → ℕ → ℕ → ℕ → Next → Time → Bench → Step
 play_of k count free number next t b =
-    unless_bad number free b (to_reports count t b) (λ u c. play_now_of k count free number t u c b) (judged_by count next b.place.last)
+    unless_bad number free b (to_reports count t b) (λ u c. play_now_of k count free number t u c b) (judged_by count next b.place)
 
 unfoldable pub reports_of : Clocks → ℕ → ℕ → Time → Levels → ℕ → Bench → Step
 reports_of k count free t w u b = cond (leb count u) (goes (Looks (After t)) b) (turned u (report_of k free t w u b.place (state_at b u)) b)

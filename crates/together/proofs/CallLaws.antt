@@ -147,7 +147,7 @@ module _ (k : Clocks) (count room : ℕ) (r : Run) where
   line_below t judged.NoLine e = tt
   line_below t judged.Unread e = tt
   line_below t (judged.Early u) e = tt
-  line_below t (judged.Plays u c) e = either (Below count) (same_time c.time t && has_room room r) (playable count u c r.lines b.place.last e).there tt
+  line_below t (judged.Plays u c) e = either (Below count) (same_time c.time t && has_room room r) (playable count u c r.lines b.place e).there tt
 
   pub made_below : Below count (made k count room r)
   unfolding made

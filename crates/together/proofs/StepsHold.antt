@@ -254,7 +254,7 @@ module _ (k : Clocks) (word : InWord k) (count room : ℕ) (small : count ≤ 4)
           → Kept false (turned i (played_by c.time number i (player.outcome_of k c.time (state_at b i) c.verb) b.place) b)
       play i c f same is_made on =
           let s : Iic = (player.outcome_of k c.time (state_at b i) c.verb).state in
-          let p : Playable count i c = playable count i c r.lines b.place.last f in (
+          let p : Playable count i c = playable count i c r.lines b.place f in (
             four_set i s,
             clear,
             subst (λ (d : Doing). Stage k U (is_reporting d) d (set b.states i s)) (sym e)
@@ -373,7 +373,7 @@ module _ (k : Clocks) (word : InWord k) (count room : ℕ) (small : count ≤ 4)
           → Kept true (turned i (played_by c.time number i (player.outcome_of k c.time (state_at b i) c.verb) b.place) b)
       play i c f same is_made on =
           let s : Iic = (player.outcome_of k c.time (state_at b i) c.verb).state in
-          let p : Playable count i c = playable count i c r.lines b.place.last f in
+          let p : Playable count i c = playable count i c r.lines b.place f in
           let is : s ≡ after k (call_from c.time c.verb) (state_at b i) = state_is k c.time (state_at b i) c.verb in (
             four_set i s,
             clear,

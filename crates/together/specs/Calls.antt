@@ -14,7 +14,7 @@ use Rattle.script.specs.declared.Judged.{Judged}
 use Rattle.script.specs.declared.Judged.TheVariants as judged
 use Rattle.bench.specs.Bench.{Run, after, start}
 use Rattle.script.specs.Script.{next_of}
-use Rattle.script.specs.Script.{judged_by}
+use Rattle.bench.specs.Steps.{judged_by}
 use Rattle.units.specs.Units.{is_named}
 use Rattle.bench.specs.Moments.{mark_of, state_at}
 
@@ -34,7 +34,7 @@ unit_in r u = state_at r.bench u
 
 -- what becomes of the next script line
 abbrev pub line_in : ℕ → Run → Judged
-line_in count r = judged_by count (next_of r.lines) r.bench.place.last
+line_in count r = judged_by count (next_of r.lines) r.bench.place
 
 -- ## The call that a step makes
 

@@ -22,7 +22,6 @@ use Rattle.answers.specs.Calls as player
 use Rattle.lines.specs.Lines.{may_follow}
 use Rattle.lines.specs.Reading.{digit_of, timed_of, verb_of}
 use Rattle.lines.specs.declared.Call.{Call as ScriptCall}
-use Rattle.lines.specs.declared.Last.{Last}
 use Rattle.lines.specs.declared.Last.TheVariants.{After}
 use Rattle.lines.specs.declared.Verb.{Verb}
 use Rattle.lines.specs.declared.Verb.TheVariants as verb
@@ -32,12 +31,13 @@ use Rattle.lines.specs.declared.reading.MaybeVerb.{MaybeVerb}
 use Rattle.lines.specs.declared.reading.MaybeVerb.TheVariants.{NoVerb, IsVerb}
 use Rattle.wires.specs.Units.{Answered, NotPast, named}
 use Rattle.bench.specs.declared.Bench.{Bench}
+use Rattle.bench.specs.declared.Place.{Place}
 use Rattle.script.specs.declared.Next.{Next}
 use Rattle.script.specs.declared.Next.TheVariants.{NoLine, Malformed, Calls}
 use Rattle.script.specs.declared.Judged.{Judged}
 use Rattle.script.specs.declared.Judged.TheVariants as judged
 use Rattle.script.specs.Script.{called_of, is_scripted, line_of, next_of, with_time, with_verb}
-use Rattle.script.specs.Script.{judged_as, judged_by}
+use Rattle.bench.specs.Steps.{judged_as, judged_by}
 use Rattle.units.specs.Units.{is_at, is_named, is_present, names_by, names_of}
 use Rattle.bench.specs.Moments.{mark_of, moment_of, named_by, state_at}
 use Rattle.together.specs.Calls.{call_from}
@@ -116,15 +116,15 @@ next_scripted : (ls : List (List ℕ)) → Scripted (next_of ls)
 next_scripted [] = tt
 next_scripted (l ∷ ls) = line_scripted l
 
-judges : (count : ℕ) (n : Next) (p : Last) → Scripted n → Judges count (judged_by count n p)
+judges : (count : ℕ) (n : Next) (p : Place) → Scripted n → Judges count (judged_by count n p)
 unfolding judged_by judged_as
 judges count NoLine p h = tt
 judges count Malformed p h = tt
 judges count (Calls u c) p h =
     by_cases (Judges count) (leb count u) (λ e. tt)
-    (λ e. either (Judges count) (may_follow p c.time) (record { there = leb-false count u e; scripted = h }) tt)
+    (λ e. either (Judges count) (may_follow p.last c.time) (record { there = leb-false count u e; scripted = h }) tt)
 
-pub playable : (count u : ℕ) (c : ScriptCall) (ls : List (List ℕ)) (p : Last) → judged_by count (next_of ls) p ≡ judged.Plays u c → Playable count u c
+pub playable : (count u : ℕ) (c : ScriptCall) (ls : List (List ℕ)) (p : Place) → judged_by count (next_of ls) p ≡ judged.Plays u c → Playable count u c
 playable count u c ls p e = subst (Judges count) e (judges count (next_of ls) p (next_scripted ls))
 
 -- ## The moment that a deadline names
