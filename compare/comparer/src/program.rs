@@ -10,13 +10,13 @@ pub struct Program {
 }
 
 impl Program {
-    /// That of the repository's `target/bin`.
+    /// That of the crate of this name, where rt builds it.
     pub fn find(name: &str) -> Result<Self, String> {
-        let path = Path::new(env!("CARGO_MANIFEST_DIR")).join("../../target/bin").join(name);
+        let path = Path::new(env!("CARGO_MANIFEST_DIR")).join("../../crates").join(name).join("out").join(name);
         if path.exists() {
             return Ok(Self { path });
         }
-        Err(format!("{} is missing: run `rt check {name}`", path.display()))
+        Err(format!("{} is missing: compare/run builds it", path.display()))
     }
 
     /// What the program writes to standard output and to standard error; an error if it can't be run or ends badly.

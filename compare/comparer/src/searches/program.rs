@@ -1,4 +1,4 @@
-//! What the program shortest, `target/bin/shortest` of the repository, is asked and says.
+//! What the program shortest is asked and says.
 use super::Found;
 use crate::program::is_line;
 
