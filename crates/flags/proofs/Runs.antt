@@ -333,10 +333,10 @@ every al = refl
 every aas = refl
 every adz = refl
 
--- of a state that 9 and 10 aren't for
-met_on : (k : Clocks) (x : Call) (s : Iic) → Ranges s → FrameToGo s.frame → (outcome_of k x s).state.rates ≡ s.rates
+-- document 02 (f): every call, answered or refused, hands the rate set on untouched, from any state that 9 and 10 aren't for
+pub handed_on : (k : Clocks) (x : Call) (s : Iic) → Ranges s → FrameToGo s.frame → (outcome_of k x s).state.rates ≡ s.rates
 unfolding next
-met_on k x s ranges frame =
+handed_on k x s ranges frame =
     (holds_next s.rates k x (record { state = s; latest = showed 0xff }) ((λ f e. every f, refl), ranges, frame)).0.1
 
 ranges_met : (s : Iic) → s.registers.mode < 256 → ranges_hold s ≡ true → Ranges s
@@ -384,9 +384,9 @@ refused_same k interrupt s e = refl
 refused_same k (interrupt_with_enable retained) s e = refl
 refused_same k (validate now) s e = refl
 
--- document 02 (f): every call, answered or refused, hands the rate set on untouched, from any state; ICMR is a byte
-pub handed_on : (k : Clocks) (x : Call) (s : Iic) → s.registers.mode < 256 → (outcome_of k x s).state.rates ≡ s.rates
-handed_on k x s byte =
+-- and from any other state, in which a call is refused; ICMR is a byte
+pub handed_on_from_any : (k : Clocks) (x : Call) (s : Iic) → s.registers.mode < 256 → (outcome_of k x s).state.rates ≡ s.rates
+handed_on_from_any k x s byte =
     decide (ranges_hold s && progress_holds s)
-    (λ h. met_on k x s (ranges_met s byte (and_left (ranges_hold s) (progress_holds s) h)) (frame_met s.frame (and_right (ranges_hold s) (progress_holds s) h)))
+    (λ h. handed_on k x s (ranges_met s byte (and_left (ranges_hold s) (progress_holds s) h)) (frame_met s.frame (and_right (ranges_hold s) (progress_holds s) h)))
     (λ h. ap (λ (u : Iic). u.rates) (refused_same k x s (drawn (has_zero k) (rates_hold s.rates) (ranges_hold s) (progress_holds s) h)))
