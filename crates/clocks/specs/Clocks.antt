@@ -20,7 +20,7 @@ use Rattle.clocks.specs.declared.tap.Route.{Route}
 use Rattle.clocks.specs.declared.tap.Route.TheVariants.{ThroughS, ThroughW, Direct}
 use Rattle.counts.specs.Counts.{fits, with_count}
 use Rattle.prescaler.specs.Prescaler.{fresh_s, fresh_w, stage_ticks, stage_high, stage_edge}
-use Rattle.domain.specs.Domain.{running_from, domain_ticks, domain_high}
+use Rattle.domain.specs.Domain.{running_from, domain_ticks, level_high}
 use Rattle.clocks.specs.Tap.{within, route_of}
 
 -- `Frequencies::default`
@@ -117,7 +117,7 @@ unfoldable pub routed_high : Clocks → Tap → Time → ℕ → Route → Truth
 routed_high k t now n (ThroughS s) = stage_high 13 k.prescaler_s.divider n s
 routed_high k t now n (ThroughW s) = stage_high 8 k.prescaler_w.divider (n / 4) s
 routed_high k t now n Direct =
-    cond (ltb t.divide 2) (domain_high (source_of k t.source) now n) (Is (ltb (n % t.divide) (t.divide / 2)))
+    cond (ltb t.divide 2) (level_high (source_of k t.source) now n) (Is (ltb (n % t.divide) (t.divide / 2)))
 
 -- `Clocks::high`
 unfoldable pub tap_high : Clocks → Time → Tap → Truth

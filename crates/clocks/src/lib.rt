@@ -263,7 +263,7 @@ impl Clocks {
             Route::ThroughS(s) => self.prescaler_s.high(raw, s),
             Route::ThroughW(s) => self.prescaler_w.high(raw / 4, s),
             Route::Direct => if tap.divide < 2 {
-                self.source(source).high(now, raw)
+                self.source(source).level_high(now, raw)
             } else {
                 Truth::Is(raw % (tap.divide as u64) < ((tap.divide / 2) as u64))
             },

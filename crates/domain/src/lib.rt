@@ -128,7 +128,7 @@ impl Domain {
     }
 
     // The level of the domain's own clock, where so many edges were counted.
-    fn level_high(self, now: Time, count: u64) -> Truth
+    pub fn level_high(self, now: Time, count: u64) -> Truth
         ensures { result ≡ level_high self now count }
     {
         if count == u64::MAX {

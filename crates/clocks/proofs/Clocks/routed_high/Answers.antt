@@ -13,7 +13,7 @@ returns-in-ThroughW c = simp (c.high-in-ThroughW.ensures, c.in-ThroughW.is)
 
 pub returns-then-tap-lt2 : goal.returns-then-tap-lt2
 unfolding routed_high
-returns-then-tap-lt2 c = simp (c.high-then-tap-lt2.ensures, ← c.source.ensures, lt-ltb _ _ c.if-tap-lt2.true, c.in-Direct.is)
+returns-then-tap-lt2 c = simp (c.level_high.ensures, ← c.source.ensures, lt-ltb _ _ c.if-tap-lt2.true, c.in-Direct.is)
 
 pub returns-else-tap-lt2 : goal.returns-else-tap-lt2
 unfolding routed_high
