@@ -1,5 +1,5 @@
-//! Links the static libraries of the crates probe, player_c, search_c, sensor_calls, bench_c, bench_calls, map_c and
-//! map_calls, which `compare/prepare` puts into `target/staticlib` of the workspace, without the `_c`.
+//! Links the static libraries of the crates probe_c, player_c, search_c, sensor_calls_c, bench_c, bench_calls_c, map_c
+//! and map_calls_c, which `compare/prepare` puts into `target/staticlib` of the workspace, without the `_c`.
 use std::path::Path;
 
 fn main() {
