@@ -7,7 +7,7 @@ ghost use Rattle.bus.specs.Bits.{flag};
 ghost use Rattle.bus.specs.Bus.{same_levels, is_start, is_stop, first_bit, shift_in, is_acknowledge, is_read, is_general_call, wired};
 
 // The levels of the two lines; true is high.
-#[derive(Clone, Copy)]
+#[derive(Clone, Copy, Debug, PartialEq, Eq)]
 pub struct Levels {
     pub scl: bool,
     pub sda: bool,
@@ -20,10 +20,11 @@ pub fn flag(test: bool, mask: u8) -> u8
     if test { mask } else { 0 }
 }
 
+// `==`, kept as a function since its contract says it in `same_levels`, which the definition of an idle call cites.
 pub fn same_levels(a: Levels, b: Levels) -> bool
     ensures { result ≡ same_levels a b }
 {
-    (a.scl == b.scl) & (a.sda == b.sda)
+    a == b
 }
 
 // The levels of wires that two drive.

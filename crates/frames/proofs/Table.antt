@@ -1,47 +1,9 @@
--- Laws: a rule of a table, at all of its entries by one test that antt computes, one entry after the other; and the mirror's.
-use Rattle.std.proofs.Common.{◌≡◌, ◌∙◌, subst, sym, ⊎_elim, Bool, true, false, List, [], ◌∷◌, ℕ, zero, suc, ◌+◌, ◌-◌, ◌<◌, add-zero, zero-add, add-suc, suc-add, le_of_suc-le-suc, not-suc-le-zero, eq-or-lt_of_le, T, eqb, length, get_or}
-use Rattle.std.proofs.Math.Dec.{eqb→eq}
+-- Laws: the table of the mirrors, all of its entries together. Assumes nothing.
+use Rattle.std.specs.Prelude.{◌≡◌, ℕ, zero, suc, ◌-◌, ◌<◌, List, [], ◌∷◌, map, get_or, refl}
+use Rattle.std.specs.List.{range_with_len}
+use Rattle.std.proofs.Common.{◌∙◌, ap, arith}
+use Rattle.std.proofs.lemmas.List.FromFn.{get_or-map-range_with_len}
 use Rattle.frames.specs.Mirror.{bit_of, mirror_of}
-
-abbrev both : Bool → Bool → Bool
-both true b = b
-both false b = false
-
-both_left : (a b : Bool) → T (both a b) → T a
-both_left true b t = tt
-both_left false b t = t
-
-both_right : (a b : Bool) → T (both a b) → T b
-both_right true b t = t
-both_right false b t = absurd t
-
--- the test f passes at each entry of the list and its place, counted from i
-abbrev every : (ℕ → ℕ → Bool) → ℕ → List ℕ → Bool
-every f i [] = true
-every f i (x ∷ xs) = both (f i x) (every f (suc i) xs)
-
-from : (f : ℕ → ℕ → Bool) (xs : List ℕ) (i : ℕ) → T (every f i xs) → (k : ℕ) → k < length xs → T (f (i + k) (get_or xs k 0))
-from f [] i t k h = absurd (not-suc-le-zero h)
-from f (x ∷ xs) i t zero h = subst (λ (m : ℕ). T (f m x)) (sym (add-zero i)) (both_left (f i x) (every f (suc i) xs) t)
-from f (x ∷ xs) i t (suc k) h =
-    subst (λ (m : ℕ). T (f m (get_or xs k 0))) (suc-add i k ∙ sym (add-suc i k))
-    (from f xs (suc i) (both_right (f i x) (every f (suc i) xs) t) k (le_of_suc-le-suc h))
-
-at : (f : ℕ → ℕ → Bool) (xs : List ℕ) → T (every f 0 xs) → (k : ℕ) → k < length xs → T (f k (get_or xs k 0))
-at f xs t k h = subst (λ (m : ℕ). T (f m (get_or xs k 0))) (zero-add k) (from f xs 0 t k h)
-
--- the bits of x below k are those of p, counted from the other end
-abbrev agree : ℕ → ℕ → ℕ → Bool
-agree zero p x = true
-agree (suc k) p x = both (eqb (bit_of k x) (bit_of (7 - k) p)) (agree k p x)
-
-agree_at : (n p x : ℕ) → T (agree n p x) → (k : ℕ) → k < n → bit_of k x ≡ bit_of (7 - k) p
-agree_at zero p x t k h = absurd (not-suc-le-zero h)
-agree_at (suc n) p x t k h =
-    ⊎_elim
-    (λ e. subst (λ (j : ℕ). bit_of j x ≡ bit_of (7 - j) p) (sym e) (eqb→eq (bit_of n x) (bit_of (7 - n) p) (both_left (eqb (bit_of n x) (bit_of (7 - n) p)) (agree n p x) t)))
-    (λ l. agree_at n p x (both_right (eqb (bit_of n x) (bit_of (7 - n) p)) (agree n p x) t) k l)
-    (eq-or-lt_of_le (le_of_suc-le-suc h))
 
 -- the constant table of the code
 unfoldable pub table : List ℕ
@@ -63,14 +25,26 @@ table =
     7 ∷ 135 ∷ 71 ∷ 199 ∷ 39 ∷ 167 ∷ 103 ∷ 231 ∷ 23 ∷ 151 ∷ 87 ∷ 215 ∷ 55 ∷ 183 ∷ 119 ∷ 247 ∷
     15 ∷ 143 ∷ 79 ∷ 207 ∷ 47 ∷ 175 ∷ 111 ∷ 239 ∷ 31 ∷ 159 ∷ 95 ∷ 223 ∷ 63 ∷ 191 ∷ 127 ∷ 255 ∷ []
 
--- an entry is the mirror of its place, and bit k of it is bit 7 - k of the place
-abbrev right : ℕ → ℕ → Bool
-right p x = both (eqb x (mirror_of p)) (agree 8 p x)
-
--- the test passes at all 256 places
-pub mirrors : (p : ℕ) → p < 256 → (get_or table p 0 ≡ mirror_of p) × ((k : ℕ) → k < 8 → bit_of k (get_or table p 0) ≡ bit_of (7 - k) p)
+-- each entry is the mirror of its place
+entries : table ≡ map mirror_of (range_with_len 0 256)
 unfolding table mirror_of
-mirrors p h =
-    let x = get_or table p 0 in
-    let t = at right table tt p h in
-    (eqb→eq x (mirror_of p) (both_left (eqb x (mirror_of p)) (agree 8 p x) t), agree_at 8 p x (both_right (eqb x (mirror_of p)) (agree 8 p x) t))
+entries = refl
+
+entry : (p : ℕ) → p < 256 → get_or table p 0 ≡ mirror_of p
+entry p h = ap (λ (xs : List ℕ). get_or xs p 0) entries ∙ get_or-map-range_with_len mirror_of 0 256 p p 0 h (omega arith)
+
+-- bit k of a mirror is bit 7 - k of the byte
+mirrored : (p k : ℕ) → p < 256 → k < 8 → bit_of k (mirror_of p) ≡ bit_of (7 - k) p
+unfolding mirror_of
+mirrored p zero h less = omega arith
+mirrored p (suc zero) h less = omega arith
+mirrored p (suc (suc zero)) h less = omega arith
+mirrored p (suc (suc (suc zero))) h less = omega arith
+mirrored p (suc (suc (suc (suc zero)))) h less = omega arith
+mirrored p (suc (suc (suc (suc (suc zero))))) h less = omega arith
+mirrored p (suc (suc (suc (suc (suc (suc zero)))))) h less = omega arith
+mirrored p (suc (suc (suc (suc (suc (suc (suc zero))))))) h less = omega arith
+mirrored p (suc (suc (suc (suc (suc (suc (suc (suc k)))))))) h less = omega arith
+
+pub mirrors : (p : ℕ) → p < 256 → (get_or table p 0 ≡ mirror_of p) × ((k : ℕ) → k < 8 → bit_of k (get_or table p 0) ≡ bit_of (7 - k) p)
+mirrors p h = (entry p h, λ k less. ap (bit_of k) (entry p h) ∙ mirrored p k h less)

@@ -1,12 +1,10 @@
 -- Definitions: a byte on its way (iic.rs, `Frame`), its parts and what is asked of it. Numbers in brackets are lines of iic.rs.
-use Rattle.std.specs.Prelude.{ℕ, ◌-◌, Bool, true, false, not, ◌&&◌, ◌||◌, cond, eqb, ltb}
+use Rattle.std.specs.Prelude.{ℕ, ◌-◌, Bool, true, false, not, ◌&&◌, ◌||◌, cond, eqb, ltb, None, Option, Some}
 use Rattle.std.specs.Int.Bits.{bit_and}
 use Rattle.bus.specs.Bus.{first_bit, shift_in}
 use Rattle.frames.specs.declared.Frame.{Frame}
 use Rattle.frames.specs.declared.Phase.{Phase}
 use Rattle.frames.specs.declared.Phase.TheVariants.{Data, Ack, Done}
-use Rattle.frames.specs.declared.Framing.{Framing}
-use Rattle.frames.specs.declared.Framing.TheVariants.{NoFrame, InFrame}
 
 -- ## Phases
 
@@ -75,37 +73,37 @@ data_level f = not f.transmit || first_bit f.shift
 -- ## The same where there may be no frame
 
 -- arbitration was lost (603)
-abbrev pub yield_in : Framing → Framing
-yield_in NoFrame = NoFrame
-yield_in (InFrame f) = InFrame (yielded f)
+abbrev pub yield_in : Option Frame → Option Frame
+yield_in None = None
+yield_in (Some f) = Some (yielded f)
 
 -- ICDRR was read: the byte under way is the last where ICCR1's RCVD is set, unless it is an address or is through (240)
-abbrev pub mark_in : Framing → Bool → Framing
-mark_in NoFrame last = NoFrame
-mark_in (InFrame f) last = cond (is_done f.phase || f.address) (InFrame f) (InFrame (marked last f))
+abbrev pub mark_in : Option Frame → Bool → Option Frame
+mark_in None last = None
+mark_in (Some f) last = cond (is_done f.phase || f.address) (Some f) (Some (marked last f))
 
 -- ICCR1 was written: a frame's data phase follows MST and TRS while filtered SCL is low (275)
-abbrev pub redirect_in : Framing → Bool → Bool → Bool → Bool → Framing
-redirect_in NoFrame transmit master last scl = NoFrame
-redirect_in (InFrame f) transmit master last scl =
-    cond (is_data f.phase && not scl) (InFrame (redirect_frame transmit master last f)) (InFrame f)
+abbrev pub redirect_in : Option Frame → Bool → Bool → Bool → Bool → Option Frame
+redirect_in None transmit master last scl = None
+redirect_in (Some f) transmit master last scl =
+    cond (is_data f.phase && not scl) (Some (redirect_frame transmit master last f)) (Some f)
 
 -- ICMR was written: its BC is that of a data phase that is no address (330)
-abbrev pub recount_in : Framing → ℕ → Framing
-recount_in NoFrame n = NoFrame
-recount_in (InFrame f) n = cond (is_data f.phase && not f.address) (InFrame (recounted n f)) (InFrame f)
+abbrev pub recount_in : Option Frame → ℕ → Option Frame
+recount_in None n = None
+recount_in (Some f) n = cond (is_data f.phase && not f.address) (Some (recounted n f)) (Some f)
 
 -- ## What is asked where there may be no frame
 
 -- ICMR's BC: what a frame has to go, else as written (207)
-abbrev pub shown_count : Framing → ℕ → ℕ
-shown_count NoFrame n = n
-shown_count (InFrame f) n = bit_and f.remaining 7
+abbrev pub shown_count : Option Frame → ℕ → ℕ
+shown_count None n = n
+shown_count (Some f) n = bit_and f.remaining 7
 
 -- a frame that is through (317, 701)
-abbrev pub is_done_in : Framing → Bool
-is_done_in NoFrame = false
-is_done_in (InFrame f) = is_done f.phase
+abbrev pub is_done_in : Option Frame → Bool
+is_done_in None = false
+is_done_in (Some f) = is_done f.phase
 
 -- document 01, 10: the bits to go that a phase allows (904)
 abbrev pub progress_at : Phase → ℕ → Bool
@@ -114,6 +112,6 @@ progress_at Ack n = eqb n 0
 progress_at Done n = eqb n 0
 
 -- document 01, refused 10 where this doesn't hold: 1 to 8 bits to go in the data phase, none in another
-abbrev pub progress_in : Framing → Bool
-progress_in NoFrame = true
-progress_in (InFrame f) = progress_at f.phase f.remaining
+abbrev pub progress_in : Option Frame → Bool
+progress_in None = true
+progress_in (Some f) = progress_at f.phase f.remaining

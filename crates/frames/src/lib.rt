@@ -5,7 +5,7 @@ pub mod mirror;
 pub mod parts;
 
 // What a frame is at: its bits, the ninth clock, or past it.
-#[derive(Clone, Copy)]
+#[derive(Clone, Copy, Debug, PartialEq, Eq)]
 pub enum Phase {
     Data,
     Ack,
@@ -13,7 +13,7 @@ pub enum Phase {
 }
 
 // A byte on its way.
-#[derive(Clone, Copy)]
+#[derive(Clone, Copy, Debug, PartialEq, Eq)]
 pub struct Frame {
     pub shift: u8,
     pub remaining: u8,
@@ -22,10 +22,4 @@ pub struct Frame {
     pub transmit: bool,
     pub loaded: bool,
     pub last: bool,
-}
-
-#[derive(Clone, Copy)]
-pub enum Framing {
-    NoFrame,
-    InFrame(Frame),
 }

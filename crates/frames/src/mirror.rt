@@ -2,6 +2,7 @@
 ghost use Rattle.std.specs.Prelude.{◌≡◌, ℕ, ◌-◌, ◌<◌};
 ghost use Rattle.frames.specs.Mirror.{bit_of, mirror_of, ordered};
 
+// A table, which document 01 asks for; a look-up also takes less time than the library's `reverse_bits`.
 const MIRROR: [u8; 256] = [
     0, 128, 64, 192, 32, 160, 96, 224, 16, 144, 80, 208, 48, 176, 112, 240, 8, 136, 72, 200, 40,
     168, 104, 232, 24, 152, 88, 216, 56, 184, 120, 248, 4, 132, 68, 196, 36, 164, 100, 228, 20,
@@ -26,6 +27,7 @@ pub fn mirror(byte: u8) -> u8
 }
 
 // The byte, mirrored where its low bit goes first.
+#[tactic(auto, unfolding(crate::specs::Mirror::ordered))]
 pub fn ordered(low_first: bool, byte: u8) -> u8
     ensures { result ≡ ordered low_first byte }
 {

@@ -2,7 +2,7 @@
 ghost use Rattle.std.specs.Prelude.{◌≡◌, ◌-◌};
 ghost use Rattle.frames.specs.Parts.{phased, filled, directed, yielded, sampled, marked, recounted, starved, data_level, bits_of, redirect_frame, redirect_in, yield_in, mark_in, recount_in, shown_count, is_done_in, progress_in, is_data, is_done};
 
-use super::{Frame, Framing, Phase};
+use super::{Frame, Phase};
 
 // Eight bits for an address or a count of 0.
 pub fn bits_of(address: bool, count: u8) -> u8
@@ -15,28 +15,21 @@ pub fn bits_of(address: bool, count: u8) -> u8
 fn fewer(n: u8) -> u8
     ensures { result ≡ n - 1 }
 {
-    if n == 0 { 0 } else { n - 1 }
+    n.saturating_sub(1)
 }
 
 impl Phase {
+    // `==`, like `is_done` kept as a method since its contract says it in the definition that those of the shifter cite.
     pub fn is_data(self) -> bool
         ensures { result ≡ is_data self }
     {
-        match self {
-            Phase::Data => true,
-            Phase::Ack => false,
-            Phase::Done => false,
-        }
+        self == Phase::Data
     }
 
     pub fn is_done(self) -> bool
         ensures { result ≡ is_done self }
     {
-        match self {
-            Phase::Data => false,
-            Phase::Ack => false,
-            Phase::Done => true,
-        }
+        self == Phase::Done
     }
 }
 
@@ -105,6 +98,7 @@ impl Frame {
     }
 
     // MST or TRS was written.
+    #[tactic(auto, unfolding(crate::specs::Parts::redirect_frame))]
     pub(crate) fn redirected(self, transmit: bool, master: bool, last: bool) -> Frame
         ensures { result ≡ redirect_frame transmit master last self }
     {
@@ -120,90 +114,69 @@ impl Frame {
     }
 }
 
-impl Framing {
-    pub fn yielded_in(self) -> Framing
-        ensures { result ≡ yield_in self }
-    {
-        match self {
-            Framing::NoFrame => Framing::NoFrame,
-            Framing::InFrame(f) => Framing::InFrame(f.yielded()),
-        }
-    }
+// After a lost arbitration.
+pub fn yielded_in(frame: Option<Frame>) -> Option<Frame>
+    ensures { result ≡ yield_in frame }
+{
+    frame.map(|f| f.yielded())
+}
 
-    pub fn shown_count(self, count: u8) -> u8
-        ensures { result ≡ shown_count self count }
-    {
-        match self {
-            Framing::NoFrame => count,
-            Framing::InFrame(f) => f.remaining & 7,
-        }
-    }
+pub fn shown_count(frame: Option<Frame>, count: u8) -> u8
+    ensures { result ≡ shown_count frame count }
+{
+    frame.map_or(count, |f| f.remaining & 7)
+}
 
-    // The byte under way is the last where RCVD is set.
-    pub fn marked_in(self, last: bool) -> Framing
-        ensures { result ≡ mark_in self last }
-    {
-        let Framing::InFrame(f) = self else {
-            return self;
-        };
-        let phase = f.phase;
-        let kept = phase.is_done() | f.address;
-        if kept {
-            return Framing::InFrame(f);
-        }
-        Framing::InFrame(f.marked(last))
-    }
+// The byte under way is the last where RCVD is set.
+pub fn marked_in(frame: Option<Frame>, last: bool) -> Option<Frame>
+    ensures { result ≡ mark_in frame last }
+{
+    frame.map(|f| {
+        let kept = f.phase.is_done() | f.address;
+        if kept { f } else { f.marked(last) }
+    })
+}
 
-    pub fn recounted_in(self, count: u8) -> Framing
-        ensures { result ≡ recount_in self count }
-    {
-        let Framing::InFrame(f) = self else {
-            return self;
-        };
-        let phase = f.phase;
-        let counts = phase.is_data() & !f.address;
-        if counts {
-            return Framing::InFrame(f.recounted(count));
-        }
-        Framing::InFrame(f)
-    }
+pub fn recounted_in(frame: Option<Frame>, count: u8) -> Option<Frame>
+    ensures { result ≡ recount_in frame count }
+{
+    frame.map(|f| {
+        let counts = f.phase.is_data() & !f.address;
+        if counts { f.recounted(count) } else { f }
+    })
+}
 
-    // A frame's data phase follows MST and TRS while filtered SCL is low.
-    pub fn redirected_in(self, transmit: bool, master: bool, last: bool, scl: bool) -> Framing
-        ensures { result ≡ redirect_in self transmit master last scl }
-    {
-        let Framing::InFrame(f) = self else {
-            return self;
-        };
-        let phase = f.phase;
-        let open = phase.is_data() & !scl;
+// A frame's data phase follows MST and TRS while filtered SCL is low.
+pub fn redirected_in(
+    frame: Option<Frame>,
+    transmit: bool,
+    master: bool,
+    last: bool,
+    scl: bool,
+) -> Option<Frame>
+    ensures { result ≡ redirect_in frame transmit master last scl }
+{
+    frame.map(|f| {
+        let open = f.phase.is_data() & !scl;
         if open {
-            return Framing::InFrame(f.redirected(transmit, master, last));
+            f.redirected(transmit, master, last)
+        } else {
+            f
         }
-        Framing::InFrame(f)
-    }
+    })
+}
 
-    pub fn is_done_in(self) -> bool
-        ensures { result ≡ is_done_in self }
-    {
-        let Framing::InFrame(f) = self else {
-            return false;
-        };
-        let phase = f.phase;
-        phase.is_done()
-    }
+pub fn is_done_in(frame: Option<Frame>) -> bool
+    ensures { result ≡ is_done_in frame }
+{
+    frame.is_some_and(|f| f.phase.is_done())
+}
 
-    pub fn progress_holds(self) -> bool
-        ensures { result ≡ progress_in self }
-    {
-        let Framing::InFrame(f) = self else {
-            return true;
-        };
-        let phase = f.phase;
-        match phase {
-            Phase::Data => (0 < f.remaining) & (f.remaining < 9),
-            Phase::Ack => f.remaining == 0,
-            Phase::Done => f.remaining == 0,
-        }
-    }
+pub fn progress_holds(frame: Option<Frame>) -> bool
+    ensures { result ≡ progress_in frame }
+{
+    frame.is_none_or(|f| match f.phase {
+        Phase::Data => (0 < f.remaining) & (f.remaining < 9),
+        Phase::Ack | Phase::Done => f.remaining == 0,
+    })
 }

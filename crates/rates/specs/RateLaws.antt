@@ -1,7 +1,10 @@
 -- Laws: the rate set of document 01 isn't refused, and how `each` goes on. Assumes nothing.
-use Rattle.std.specs.Prelude.{ℕ, zero, suc, ◌+◌, ◌-◌, ◌<◌, Bool, true, false, ◌&&◌, List, [], ◌∷◌, ◌++◌, ◌≡◌, refl, eqb, get_or}
-use Rattle.std.proofs.Common.{◌∙◌, ap, ap₂, eq-eqb, eqb-true, ne_eqb, arith}
+use Rattle.std.specs.Prelude.{ℕ, zero, suc, ◌+◌, ◌-◌, ◌<◌, ◌≤◌, Bool, true, false, ◌&&◌, List, [], ◌∷◌, ◌++◌, ◌≡◌, refl, eqb, get_or, length, take}
+use Rattle.std.specs.List.{list_all}
+use Rattle.std.proofs.Common.{◌∙◌, sym, ap, ap₂, eq-eqb, eqb-true, ne_eqb, arith}
 use Rattle.std.proofs.lemmas.Bool.{eqb-false}
+use Rattle.std.proofs.lemmas.List.{take_all}
+use Rattle.std.proofs.lemmas.List.Folds.{list_all_more}
 use Rattle.std.proofs.Math.Numerals.{unary_clauses}
 use Rattle.time.specs.Truths.{and_left, and_right}
 use Rattle.rates.specs.Rates.{are_four, each, is_default, lengths_hold, monitor_below, monitor_halves, period_of, rate, rates_hold, word_of}
@@ -67,6 +70,17 @@ pub each_on : (p : ℕ → Bool) (n : ℕ) → (n ≡ 0 → ⊥) → each p n �
 each_on p zero h = absurd (h refl)
 each_on p (suc n) h = simp unary_clauses refl
 
+-- of the first n of a list, one by one
+pub each_of : (p : ℕ → Bool) (xs : List ℕ) (n : ℕ) → n ≤ length xs → each (λ i. p (get_or xs i 0)) n ≡ list_all p (take n xs)
+each_of p xs zero h = refl
+each_of p xs (suc n) h =
+    let less : n < length xs = omega (arith, h) in
+    let one : suc n ≡ n + 1 = omega arith in
+    ap (λ (b : Bool). b && p (get_or xs n 0)) (each_of p xs n (omega (arith, h))) ∙ sym (list_all_more p xs n 0 less) ∙ ap (λ (k : ℕ). list_all p (take k xs)) (sym one)
+
+pub each_all : (p : ℕ → Bool) (xs : List ℕ) (n : ℕ) → length xs ≡ n → list_all p xs ≡ each (λ i. p (get_or xs i 0)) n
+each_all p xs n e = sym (each_of p xs n (omega (arith, e)) ∙ ap (list_all p) (take_all n xs (omega (arith, e))))
+
 -- words of four lengths are equal where the lengths are
 pub same_words : (a b c d e f g h : ℕ) → a < 0x10000 → b < 0x10000 → c < 0x10000 → d < 0x10000 → e < 0x10000 → f < 0x10000 → g < 0x10000 → h < 0x10000
     → eqb (word_of a b c d) (word_of e f g h) ≡ (eqb a e && eqb b f && eqb c g && eqb d h)
@@ -86,15 +100,3 @@ same_words a b c d e f g h la lb lc ld le lf lg lh = go (eqb a e) refl (eqb b f)
     go true ep true eq true er false et = apart (λ x. eqb-false d h et (parts x).1.1.1)
     go true ep true eq true er true et =
         eq-eqb (word_of a b c d) (word_of e f g h) (rw (eqb-true a e ep, eqb-true b f eq, eqb-true c g er, eqb-true d h et))
-
--- eight tests, as four and four
-pub eight : (a b c d e f g h : Bool) → (a && b && c && d && (e && f && g && h)) ≡ (a && b && c && d && e && f && g && h)
-eight true true true true e f g h = refl
-eight true true true false e f g h = refl
-eight true true false d e f g h = refl
-eight true false c d e f g h = refl
-eight false b c d e f g h = refl
-
-pub and_and : (a b c : Bool) → (a && (b && c)) ≡ (a && b && c)
-and_and true b c = refl
-and_and false b c = refl

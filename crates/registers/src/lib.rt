@@ -11,7 +11,8 @@ use bits::{ACKBR, BBSY, BCWP, IICRST, MLS, RDRF, SCLO, SCP, SDAO, SDAOP, TDRE, T
 use bus::Levels;
 use frames::mirror::ordered;
 
-#[derive(Clone, Copy)]
+// Bytes, as the manual and the C side see them, and no struct of flags.
+#[derive(Clone, Copy, Debug, PartialEq, Eq)]
 pub struct Registers {
     pub control: u8,
     pub mode: u8,
@@ -25,7 +26,7 @@ pub struct Registers {
 }
 
 // The registers, by the manual's names.
-#[derive(Clone, Copy)]
+#[derive(Clone, Copy, Debug, PartialEq, Eq)]
 pub enum Register {
     ICCR1,
     ICCR2,
@@ -38,13 +39,12 @@ pub enum Register {
 }
 
 impl Register {
-    // Address bits 0 to 2 choose.
+    // Address bits 0 to 2 choose. A function, and no `From<u16>`: three bits of the address are looked at, so it isn't the address converted.
     #[tactic(auto, unfolding(crate::specs::Registers::register_at))]
     pub fn at(address: u16) -> Register
         ensures { result ≡ register_at address }
     {
-        let a = address & 7;
-        match a {
+        match address & 7 {
             0 => Register::ICCR1,
             1 => Register::ICCR2,
             2 => Register::ICMR,
@@ -114,10 +114,8 @@ impl Registers {
     pub fn take_data(mut self) -> Registers
         ensures { result ≡ data_taken self }
     {
-        let status = self.status & !RDRF;
-        self.status = status;
-        let seen = self.seen & !RDRF;
-        self.seen = seen;
+        self.status = self.status & !RDRF;
+        self.seen = self.seen & !RDRF;
         self
     }
 
@@ -125,8 +123,7 @@ impl Registers {
     pub fn write_enable(mut self, value: u8) -> Registers
         ensures { result ≡ enable_written value self }
     {
-        let enable = (value & !ACKBR) | (self.enable & ACKBR);
-        self.enable = enable;
+        self.enable = (value & !ACKBR) | (self.enable & ACKBR);
         self
     }
 
@@ -135,9 +132,8 @@ impl Registers {
         ensures { result ≡ status_written value self }
     {
         let status = self.status & !(self.seen & !value);
-        let seen = self.seen & status;
         self.status = status;
-        self.seen = seen;
+        self.seen = self.seen & status;
         self
     }
 
@@ -146,12 +142,9 @@ impl Registers {
         ensures { result ≡ data_given value self }
     {
         let low_first = self.mode & MLS != 0;
-        let tdr = ordered(low_first, value);
-        self.tdr = tdr;
-        let status = self.status & !(TDRE | TEND);
-        self.status = status;
-        let seen = self.seen & !(TDRE | TEND);
-        self.seen = seen;
+        self.tdr = ordered(low_first, value);
+        self.status = self.status & !(TDRE | TEND);
+        self.seen = self.seen & !(TDRE | TEND);
         self
     }
 }

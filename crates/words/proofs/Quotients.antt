@@ -182,12 +182,12 @@ module _ (x₁ m k : ℕ) (above : x₁ < m) (reciprocal : k ≡ (2 ^ 64 - 1) / 
     left_lt : x - e * m < 2 ^ 64
     left_lt = omega (arith, both.1, add-mul x₁ 1 m, add-mul x₁ 2 m, mul-le-mul_right m few, times_le)
 
-    -- the words of e * m are p₁ and p₀, and w is the difference of the low words, wrapped
-    pub left_is : (p₁ p₀ w : ℕ) → p₁ * 2 ^ 64 + p₀ ≡ e * m → w < 2 ^ 64 → (w + p₀) % 2 ^ 64 ≡ x₀ → w ≡ x - e * m
-    left_is p₁ p₀ w f word wraps = low x₁ x₀ p₁ p₀ w (e * m) f word hx wraps both.0 left_lt
+    -- the words of e * m are p₁ and p₀: the difference of the low words, wrapped, is what e leaves
+    pub left_is : (p₁ p₀ : ℕ) → p₁ * 2 ^ 64 + p₀ ≡ e * m → p₀ < 2 ^ 64 → (x₀ + (2 ^ 64 - p₀)) % 2 ^ 64 ≡ x - e * m
+    left_is p₁ p₀ f word = low x₁ x₀ p₁ p₀ (e * m) f word hx both.0 left_lt
       where
-        low : (x₁ x₀ p₁ p₀ w n : ℕ) → p₁ * 2 ^ 64 + p₀ ≡ n → w < 2 ^ 64 → x₀ < 2 ^ 64 → (w + p₀) % 2 ^ 64 ≡ x₀ → n ≤ x₁ * 2 ^ 64 + x₀ → x₁ * 2 ^ 64 + x₀ - n < 2 ^ 64 → w ≡ x₁ * 2 ^ 64 + x₀ - n
-        low x₁ x₀ p₁ p₀ w n f word hx wraps le less = omega arith
+        low : (x₁ x₀ p₁ p₀ n : ℕ) → p₁ * 2 ^ 64 + p₀ ≡ n → p₀ < 2 ^ 64 → x₀ < 2 ^ 64 → n ≤ x₁ * 2 ^ 64 + x₀ → x₁ * 2 ^ 64 + x₀ - n < 2 ^ 64 → (x₀ + (2 ^ 64 - p₀)) % 2 ^ 64 ≡ x₁ * 2 ^ 64 + x₀ - n
+        low x₁ x₀ p₁ p₀ n f word hx le less = omega arith
 
     pub wide_is : e + (x - e * m) / m ≡ x / m
     wide_is = add_comm e ((x - e * m) / m) ∙ sym (add-mul-div_right (x - e * m) e pos) ∙ ap (λ (y : ℕ). y / m) (sub-add_cancel both.0)

@@ -6,6 +6,7 @@ use Rattle.std.proofs.Math.Arith.{digits_div, digits_mod}
 use Rattle.std.proofs.Math.Pow.{split}
 use Rattle.words.specs.Words.{value_of, wide_of, divided_of, Divides}
 use Rattle.words.specs.declared.Divided.{Divided}
+use Rattle.words.specs.declared.Wide.{Wide}
 
 -- the two words of a number make the number
 pub value_of_wide : (n : ℕ) → value_of (wide_of n) ≡ n
@@ -21,11 +22,11 @@ unfolding divided_of
 quotient_of n m =
     ⊎_elim
     (λ z. rw (eq-eqb m 0 z, z) (sym (div-zero n)))
-    (λ pos. ap (λ (d : Divided). value_of d.quotient) (divided_by n m pos) ∙ value_of_wide (n / m))
+    (λ pos. ap (λ (d : Divided Wide). value_of d.quotient) (divided_by n m pos) ∙ value_of_wide (n / m))
     (eq-zero-or-pos m)
 
 pub remainder_of : (n m : ℕ) → 0 < m → (divided_of n m).remainder ≡ n % m
-remainder_of n m pos = ap (λ (d : Divided). d.remainder) (divided_by n m pos)
+remainder_of n m pos = ap (λ (d : Divided Wide). d.remainder) (divided_by n m pos)
 
 -- a quotient and a remainder that make the number are the number's
 pub quotient_is : {n m q r : ℕ} → Divides n m q r → n / m ≡ q

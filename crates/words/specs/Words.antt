@@ -18,7 +18,7 @@ abbrev pub wide_of : ℕ → Wide
 wide_of n = record { high = n / 2 ^ 64; low = n % 2 ^ 64 }
 
 -- the quotient and the remainder of n by m, both 0 where m is 0
-unfoldable pub divided_of : ℕ → ℕ → Divided
+unfoldable pub divided_of : ℕ → ℕ → Divided Wide
 divided_of n m = cond (m == 0) (record { quotient = wide_of 0; remainder = 0 }) (record { quotient = wide_of (n / m); remainder = n % m })
 
 -- q and r are the quotient and the remainder of n by m, which is not 0

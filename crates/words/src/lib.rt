@@ -5,39 +5,32 @@ ghost use Rattle.std.specs.Prelude.{◌≡◌, ◌+◌, ◌-◌, ◌*◌, ◌/�
 ghost use Rattle.words.specs.Words.{value_of, triple_of, divided_of, Divides};
 
 // A number of two words: high * 2^64 + low.
-#[derive(Clone, Copy)]
+#[derive(Clone, Copy, Debug, PartialEq, Eq)]
 pub struct Wide {
     pub high: u64,
     pub low: u64,
 }
 
 // A number of three words: (high * 2^64 + middle) * 2^64 + low.
-#[derive(Clone, Copy)]
+#[derive(Clone, Copy, Debug, PartialEq, Eq)]
 pub struct Triple {
     pub high: u64,
     pub middle: u64,
     pub low: u64,
 }
 
-// What a division gives.
-#[derive(Clone, Copy)]
-pub struct Divided {
-    pub quotient: Wide,
+// What a division gives: its quotient is one word or two.
+#[derive(Clone, Copy, Debug, PartialEq, Eq)]
+pub struct Divided<Q> {
+    pub quotient: Q,
     pub remainder: u64,
-}
-
-// What a division gives whose quotient is one word.
-#[derive(Clone, Copy)]
-struct Part {
-    quotient: u64,
-    remainder: u64,
 }
 
 // The whole sum of two words. The low word wraps, and the carry is one where the wrapped sum is the smaller.
 pub fn sum(a: u64, b: u64) -> Wide
     ensures { value_of result ≡ a + b }
 {
-    let low = std::num::wrapping_add_u64(a, b);
+    let low = a.wrapping_add(b);
     let high = if low < a { 1 } else { 0 };
     Wide { high, low }
 }
@@ -103,13 +96,13 @@ pub fn upper_of_less(n: Triple, by: u64) -> Wide
 }
 
 // Division by a divisor of at most 2^32, in two digits of 32 bits.
-fn divide_short(high: u64, low: u64, by: u64) -> Part
-    requires { (high < by) × (by ≤ 2 ^ 32) }
-    ensures { Divides (high * 2 ^ 64 + low) by result.quotient result.remainder }
+fn divide_short(n: Wide, by: u64) -> Divided<u64>
+    requires { (n.high < by) × (by ≤ 2 ^ 32) }
+    ensures { Divides (value_of n) by result.quotient result.remainder }
 {
-    let upper = high * 0x1_0000_0000 + low / 0x1_0000_0000;
-    let lower = upper % by * 0x1_0000_0000 + low % 0x1_0000_0000;
-    Part {
+    let upper = n.high * 0x1_0000_0000 + n.low / 0x1_0000_0000;
+    let lower = upper % by * 0x1_0000_0000 + n.low % 0x1_0000_0000;
+    Divided {
         quotient: upper / by * 0x1_0000_0000 + lower / by,
         remainder: lower % by,
     }
@@ -117,7 +110,7 @@ fn divide_short(high: u64, low: u64, by: u64) -> Part
 
 // One digit of 32 bits of a quotient, by a divisor with its top bit set: estimated from the divisor's upper half, the
 // quotient is at most two too large.
-fn digit(high: u64, next: u64, by: u64) -> Part
+fn digit(high: u64, next: u64, by: u64) -> Divided<u64>
     requires { (2 ^ 63 ≤ by) × (high < by) × (next < 2 ^ 32) }
     ensures { Divides (high * 2 ^ 32 + next) by result.quotient result.remainder }
 {
@@ -126,19 +119,19 @@ fn digit(high: u64, next: u64, by: u64) -> Part
     let have = high % upper * 0x1_0000_0000 + next;
     let take = estimate * (by % 0x1_0000_0000);
     if take <= have {
-        return Part {
+        return Divided {
             quotient: estimate,
             remainder: have - take,
         };
     }
     let lack = take - have;
     if lack <= by {
-        return Part {
+        return Divided {
             quotient: estimate - 1,
             remainder: by - lack,
         };
     }
-    Part {
+    Divided {
         quotient: estimate - 2,
         remainder: by - (lack - by),
     }
@@ -146,45 +139,45 @@ fn digit(high: u64, next: u64, by: u64) -> Part
 
 // Division by a divisor of more than 2^32: divisor and dividend are shifted until the divisor's top bit is set, and the
 // quotient is worked out in two digits of 32 bits.
-fn divide_long(high: u64, low: u64, by: u64) -> Part
-    requires { high < by }
-    ensures { Divides (high * 2 ^ 64 + low) by result.quotient result.remainder }
+fn divide_long(n: Wide, by: u64) -> Divided<u64>
+    requires { n.high < by }
+    ensures { Divides (value_of n) by result.quotient result.remainder }
 {
-    let shift = u64::leading_zeros(by);
+    let shift = by.leading_zeros();
     let scaled = by << shift;
-    let top = (high << shift) + ((low >> 1) >> (63 - shift));
-    let rest = low << shift;
+    let top = (n.high << shift) + ((n.low >> 1) >> (63 - shift));
+    let rest = n.low << shift;
     let first = digit(top, rest / 0x1_0000_0000, scaled);
     let second = digit(first.remainder, rest % 0x1_0000_0000, scaled);
-    Part {
+    Divided {
         quotient: first.quotient * 0x1_0000_0000 + second.quotient,
         remainder: second.remainder >> shift,
     }
 }
 
 // Division where the quotient is one word.
-fn divide_part(high: u64, low: u64, by: u64) -> Part
-    requires { high < by }
-    ensures { Divides (high * 2 ^ 64 + low) by result.quotient result.remainder }
+fn divide_part(n: Wide, by: u64) -> Divided<u64>
+    requires { n.high < by }
+    ensures { Divides (value_of n) by result.quotient result.remainder }
 {
-    if high == 0 {
-        return Part {
-            quotient: low / by,
-            remainder: low % by,
+    if n.high == 0 {
+        return Divided {
+            quotient: n.low / by,
+            remainder: n.low % by,
         };
     }
     if by <= 0x1_0000_0000 {
-        return divide_short(high, low, by);
+        return divide_short(n, by);
     }
-    divide_long(high, low, by)
+    divide_long(n, by)
 }
 
 // The quotient and the remainder of a number of two words by a word; by zero, zero and zero.
-pub fn divide(n: Wide, by: u64) -> Divided
+pub fn divide(n: Wide, by: u64) -> Divided<Wide>
     ensures { result ≡ divided_of (value_of n) by }
 {
     if n.high < by {
-        let part = divide_part(n.high, n.low, by);
+        let part = divide_part(n, by);
         return Divided {
             quotient: Wide {
                 high: 0,
@@ -199,7 +192,11 @@ pub fn divide(n: Wide, by: u64) -> Divided
             remainder: 0,
         };
     }
-    let part = divide_part(n.high % by, n.low, by);
+    let left = Wide {
+        high: n.high % by,
+        low: n.low,
+    };
+    let part = divide_part(left, by);
     Divided {
         quotient: Wide {
             high: n.high / by,
@@ -209,45 +206,53 @@ pub fn divide(n: Wide, by: u64) -> Divided
     }
 }
 
-// The quotient of a word, from the divisor's reciprocal, the quotient of 2^64 - 1: the high word of their product is the
-// quotient or one less.
-fn by_reciprocal(x: u64, reciprocal: u64, by: u64) -> u64
-    requires { (0 < by) × (reciprocal ≡ (2 ^ 64 - 1) / by) }
-    ensures { result ≡ x / by }
-{
-    let times = product(x, reciprocal);
-    let rest = x - times.high * by;
-    if rest < by {
-        return times.high;
-    }
-    times.high + 1
+// A divisor that is not 0, and its reciprocal, the quotient of 2^64 - 1.
+#[derive(Clone, Copy)]
+struct Divisor {
+    by: u64,
+    reciprocal: u64,
+    ghost some: { 0 < by },
+    ghost is_reciprocal: { reciprocal ≡ (2 ^ 64 - 1) / by },
 }
 
-// The quotient of two words by a word above the high one, from the divisor's reciprocal: the upper words of their product are
-// the quotient or less, and what they leave is a word, whose quotient is added.
-fn wide_by_reciprocal(n: Wide, reciprocal: u64, by: u64) -> u64
-    requires { (n.high < by) × (reciprocal ≡ (2 ^ 64 - 1) / by) × (n.high + 2 ≤ reciprocal) }
-    ensures { result ≡ value_of n / by }
-{
-    let lower = product(n.low, reciprocal);
-    let near = n.high * reciprocal + lower.high;
-    let taken = product(near, by);
-    let rest = std::num::wrapping_sub_u64(n.low, taken.low);
-    near + by_reciprocal(rest, reciprocal, by)
-}
+impl Divisor {
+    // The quotient of a word: the high word of its product with the reciprocal is the quotient or one less.
+    fn quotient(self, x: u64) -> u64
+        ensures { result ≡ x / self.by }
+    {
+        let times = product(x, self.reciprocal);
+        let rest = x - times.high * self.by;
+        if rest < self.by {
+            return times.high;
+        }
+        times.high + 1
+    }
 
-// The quotient of two words by a word above the high one, and so one word.
-fn one_word_quotient(n: Wide, reciprocal: u64, by: u64) -> u64
-    requires { (n.high < by) × (reciprocal ≡ (2 ^ 64 - 1) / by) }
-    ensures { result ≡ value_of n / by }
-{
-    if n.high == 0 {
-        return by_reciprocal(n.low, reciprocal, by);
+    // The quotient of two words, the high one below the divisor: the upper words of the product with the reciprocal are the quotient or less, and
+    // what they leave is a word, whose quotient is added.
+    fn wide_quotient(self, n: Wide) -> u64
+        requires { (n.high < self.by) × (n.high + 2 ≤ self.reciprocal) }
+        ensures { result ≡ value_of n / self.by }
+    {
+        let lower = product(n.low, self.reciprocal);
+        let near = n.high * self.reciprocal + lower.high;
+        let taken = product(near, self.by);
+        near + self.quotient(n.low.wrapping_sub(taken.low))
     }
-    if n.high < reciprocal - 1 {
-        return wide_by_reciprocal(n, reciprocal, by);
+
+    // The quotient of two words, the high one below the divisor, and so one word.
+    fn one_word_quotient(self, n: Wide) -> u64
+        requires { n.high < self.by }
+        ensures { result ≡ value_of n / self.by }
+    {
+        if n.high == 0 {
+            return self.quotient(n.low);
+        }
+        if n.high < self.reciprocal - 1 {
+            return self.wide_quotient(n);
+        }
+        divide_part(n, self.by).quotient
     }
-    divide_part(n.high, n.low, by).quotient
 }
 
 // The quotient of n * 2^64 by a power of two, by shifts.
@@ -255,7 +260,7 @@ fn scaled_shift(n: u64, by: u64) -> Wide
     requires { count_ones by ≡ 1 }
     ensures { value_of result ≡ n * 2 ^ 64 / by }
 {
-    let shift = u64::trailing_zeros(by);
+    let shift = by.trailing_zeros();
     Wide {
         high: n >> shift,
         low: (n << (63 - shift)) << 1,
@@ -266,16 +271,19 @@ fn scaled_shift(n: u64, by: u64) -> Wide
 pub fn scaled_quotient(n: u64, by: u64) -> Wide
     ensures { value_of result ≡ n * 2 ^ 64 / by }
 {
-    if u64::count_ones(by) == 1 {
+    if by.count_ones() == 1 {
         return scaled_shift(n, by);
     }
     if by == 0 {
         return Wide { high: 0, low: 0 };
     }
-    let reciprocal = u64::MAX / by;
-    let times = product(n, reciprocal);
+    let divisor = Divisor {
+        by,
+        reciprocal: u64::MAX / by,
+    };
+    let times = product(n, divisor.reciprocal);
     let left = product(n, u64::MAX % by + 1);
-    let low = sum(times.low, one_word_quotient(left, reciprocal, by));
+    let low = sum(times.low, divisor.one_word_quotient(left));
     Wide {
         high: times.high + low.high,
         low: low.low,

@@ -4,8 +4,8 @@ use Rattle.std.proofs.Common.{ℕ, ◌+◌, ◌*◌, ◌^◌, sym, ap, ◌∙◌
 use Rattle.words.proofs.Quotients.{machine}
 use Rattle.words.proofs.divide_part.Goals as goal
 
-pub returns-then-high-eq0 : goal.returns-then-high-eq0
-returns-then-high-eq0 c =
+pub returns-then-n-eq0 : goal.returns-then-n-eq0
+returns-then-n-eq0 c =
     let a = c.args in
-    let one = machine a.low a.by (omega arith) in
-    record { whole = one.whole ∙ sym (ap (λ (h : ℕ). h * 2 ^ 64 + a.low) c.if-high-eq0.true ∙ zero-add a.low); less = one.less }
+    let one = machine a.n.low a.by (omega arith) in
+    record { whole = one.whole ∙ sym (ap (λ (h : ℕ). h * 2 ^ 64 + a.n.low) c.if-n-eq0.true ∙ zero-add a.n.low); less = one.less }

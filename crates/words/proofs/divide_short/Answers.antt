@@ -5,40 +5,39 @@ use Rattle.words.specs.Words.{Divides}
 use Rattle.words.proofs.Quotients.{machine, steps, quotient_lt, digit_below}
 use Rattle.words.proofs.divide_short.Goals as goal
 
-abbrev upper : goal.Start → ℕ
-upper c = c.args.high * 2 ^ 32 + c.args.low / 2 ^ 32
+-- the number h * 2 ^ 64 + l by m
+module _ (h l m : ℕ) (less : h < m) where
+  abbrev upper : ℕ
+  upper = h * 2 ^ 32 + l / 2 ^ 32
 
-abbrev lower : goal.Start → ℕ
-lower c = upper c % c.args.by * 2 ^ 32 + c.args.low % 2 ^ 32
+  abbrev lower : ℕ
+  lower = upper % m * 2 ^ 32 + l % 2 ^ 32
 
-first : (c : goal.Start) → Divides (upper c) c.args.by (upper c / c.args.by) (upper c % c.args.by)
-first c = machine (upper c) c.args.by (omega arith)
+  first : Divides upper m (upper / m) (upper % m)
+  first = machine upper m (omega (arith, less))
 
-second : (c : goal.Start) → Divides (lower c) c.args.by (lower c / c.args.by) (lower c % c.args.by)
-second c = machine (lower c) c.args.by (omega arith)
+  second : Divides lower m (lower / m) (lower % m)
+  second = machine lower m (omega (arith, less))
 
-first_left : (c : goal.Start) → upper c % c.args.by < c.args.by
-first_left c = (first c).less
+  first_lt : l < 2 ^ 64 → upper / m < 2 ^ 32
+  first_lt word = quotient_lt (2 ^ 32) first (digit_below h (l / 2 ^ 32) m less (omega (arith, word)))
 
-first_lt : (c : goal.Start) → upper c / c.args.by < 2 ^ 32
-first_lt c = quotient_lt (2 ^ 32) (first c) (digit_below c.args.high (c.args.low / 2 ^ 32) c.args.by c.requires.0 (omega arith))
-
-second_lt : (c : goal.Start) → lower c / c.args.by < 2 ^ 32
-second_lt c = quotient_lt (2 ^ 32) (second c) (digit_below (upper c % c.args.by) (c.args.low % 2 ^ 32) c.args.by (first_left c) (omega arith))
+  second_lt : lower / m < 2 ^ 32
+  second_lt = quotient_lt (2 ^ 32) second (digit_below (upper % m) (l % 2 ^ 32) m first.less (omega arith))
 
 pub overflow_mul-lower : goal.overflow_mul-lower
-overflow_mul-lower c = omega (arith, first_left c)
+overflow_mul-lower c = omega (arith, (first c.args.n.high c.args.n.low c.args.by c.requires.0).less)
 
 pub overflow_add-lower : goal.overflow_add-lower
-overflow_add-lower c = omega (arith, first_left c)
+overflow_add-lower c = omega (arith, (first c.args.n.high c.args.n.low c.args.by c.requires.0).less)
 
 pub overflow_mul-result : goal.overflow_mul-result
-overflow_mul-result c = omega (arith, first_lt c)
+overflow_mul-result c = omega (arith, first_lt c.args.n.high c.args.n.low c.args.by c.requires.0 (omega arith))
 
 pub overflow_add-result : goal.overflow_add-result
-overflow_add-result c = omega (arith, first_lt c, second_lt c)
+overflow_add-result c = omega (arith, first_lt c.args.n.high c.args.n.low c.args.by c.requires.0 (omega arith), second_lt c.args.n.high c.args.n.low c.args.by c.requires.0)
 
 pub returns : goal.returns
 returns c =
-    let both = steps (2 ^ 32) (c.args.low % 2 ^ 32) (first c) (second c) in
+    let both = steps (2 ^ 32) (c.args.n.low % 2 ^ 32) (first c.args.n.high c.args.n.low c.args.by c.requires.0) (second c.args.n.high c.args.n.low c.args.by c.requires.0) in
     record { whole = omega (arith, both.whole); less = both.less }

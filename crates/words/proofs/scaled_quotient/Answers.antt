@@ -1,6 +1,6 @@
 -- `words::scaled_quotient` meets its contract: `scaled_words` of Quotients.antt adds a multiple of the quotient of 2 ^ 64 and what its remainder makes.
 -- Assumes nothing.
-use Rattle.std.proofs.Common.{ℕ, ◌*◌, ◌/◌, ◌^◌, sym, refl, ap, ◌∙◌, arith}
+use Rattle.std.proofs.Common.{ℕ, ◌*◌, ◌/◌, ◌^◌, sym, ap, ◌∙◌, arith}
 use native.Mathlib.Nat.{div-zero}
 use Rattle.words.proofs.Quotients.{rest_le, left_below, scaled_words, scaled_fit}
 use Rattle.words.proofs.scaled_quotient.Goals as goal
@@ -18,7 +18,7 @@ overflow_add-by c =
 pub one_word_quotient-requires : goal.one_word_quotient-requires
 one_word_quotient-requires c =
     let a = c.args in
-    (left_below a.n a.by (omega arith) c.product-left.result.high c.product-left.result.low c.ranges.n.fits c.product-left.ensures, refl)
+    left_below a.n a.by (omega arith) c.product-left.result.high c.product-left.result.low c.ranges.n.fits c.product-left.ensures
 
 pub overflow_add-result : goal.overflow_add-result
 overflow_add-result c =
