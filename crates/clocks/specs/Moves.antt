@@ -1,9 +1,9 @@
 -- Definitions: a clock set whose system clock's start is moved up (document 02, (k)). Each domain has a clock of its own, so that no other one moves;
 -- the prescalers see the whole count of the system domain, its ordinal included.
-use Rattle.std.specs.Prelude.{ℕ, cond}
+use Rattle.std.specs.Prelude.{ℕ, cond, Result, Ok, Err}
 use Rattle.time.specs.declared.Clock.{Clock}
-use Rattle.time.specs.declared.NewClock.{NewClock}
-use Rattle.time.specs.declared.NewClock.TheVariants.{Made, Refused}
+use Rattle.refusals.specs.declared.Refusal.{Refusal}
+use Rattle.refusals.specs.declared.Refusal.TheVariants.{ZeroFrequency}
 use Rattle.time.specs.Clock.{move_of}
 use Rattle.clocks.specs.declared.Clocks.{Clocks}
 use Rattle.clocks.specs.declared.NewClocks.{NewClocks}
@@ -23,11 +23,11 @@ with_system c k = record {
 }
 
 -- the moved clock in the set, or the refusal and the set as it was
-abbrev pub moved_in : Clocks → NewClock → NewClocks
-moved_in k (Made c) = record { refusal = 0; clocks = with_system c k }
-moved_in k (Refused r) = record { refusal = r; clocks = k }
+abbrev pub moved_in : Clocks → Result Clock Refusal → NewClocks
+moved_in k (Ok c) = record { ended = Ok tt; clocks = with_system c k }
+moved_in k (Err r) = record { ended = Err r; clocks = k }
 
 -- The system domain's clock moved by n: refusal 1, a zero in any clock of the set, comes first, then 7. "A move whose edge or ordinal leaves its width
 -- draws 7 and moves nothing."
 unfoldable pub move_system : ℕ → Clocks → NewClocks
-move_system n k = cond (has_zero k) (record { refusal = 1; clocks = k }) (moved_in k (move_of n k.system.clock))
+move_system n k = cond (has_zero k) (record { ended = Err ZeroFrequency; clocks = k }) (moved_in k (move_of n k.system.clock))

@@ -1,16 +1,15 @@
 -- Laws: in a set without a zero the half counts and the waits on the tap system/1 look at the system domain alone.
-use Rattle.std.specs.Prelude.{ℕ, ◌+◌, ◌/◌, Bool, true, false, ◌&&◌, cond, ◌≡◌, refl, eqb}
+use Rattle.std.specs.Prelude.{ℕ, ◌+◌, ◌/◌, Bool, true, false, ◌&&◌, cond, ◌≡◌, refl, eqb, Option, None, Result, Ok, Err}
 use Rattle.std.proofs.Math.Path.{ap}
 use Rattle.std.proofs.Common.{ap₂, div-one, arith, eqb-true}
 use Rattle.std.proofs.Math.Nat.{mul-one}
 use Rattle.time.specs.Clock.{after_of, zero_in}
 use Rattle.time.specs.Truths.{and_left, and_right, or_left}
-use Rattle.time.specs.declared.Count.{Count}
-use Rattle.time.specs.declared.Count.TheVariants.{Of, Refused as Uncounted}
-use Rattle.time.specs.declared.Moment.TheVariants.{Refused as Unset}
+use Rattle.refusals.specs.declared.Refusal.{Refusal}
+use Rattle.refusals.specs.Refusals.{and_then}
 use Rattle.time.specs.declared.Time.{Time}
 use Rattle.clocks.specs.Clocks.{available_of, fed_by, has_zero, routed_edge, routed_ticks, source_of, tap_edge, tap_ticks}
-use Rattle.counts.specs.Counts.{fits, with_count}
+use Rattle.counts.specs.Counts.{fits}
 use Rattle.domain.specs.Domain.{domain_half_edge, domain_half_ticks, domain_ticks}
 use Rattle.clocks.specs.Half.{half_edge, half_ticks}
 use Rattle.clocks.specs.System.{domain_deadline, on_system, system_after, system_deadline, system_started_at, system_state_deadline}
@@ -22,9 +21,6 @@ use Rattle.clocks.specs.declared.tap.Source.{Source}
 use Rattle.clocks.specs.declared.tap.Source.TheVariants.{Cpu, OnChip, Oscillator, Subclock, System, Watch}
 use Rattle.clocks.specs.declared.tap.Tap.{Tap}
 use Rattle.clocks.specs.declared.wait.ClockWait.{ClockWait}
-use Rattle.clocks.specs.declared.wait.Deadline.{Deadline}
-use Rattle.clocks.specs.declared.wait.Deadline.TheVariants.{Never}
-use Rattle.clocks.specs.declared.wait.NewWait.TheVariants.{Refused}
 use Rattle.clocks.specs.declared.wait.WaitState.{WaitState}
 use Rattle.clocks.specs.declared.wait.WaitState.TheVariants.{Paused, Ready, Running}
 
@@ -54,11 +50,11 @@ direct : route_of (system_tap 1) ≡ Direct
 unfolding route_of route_s stage_of stage_below
 direct = refl
 
-whole : (c : Count) → with_count c (λ n. Of (n / 1)) Uncounted ≡ c
-whole (Of n) = ap Of (div-one n)
-whole (Uncounted r) = refl
+whole : (c : Result ℕ Refusal) → and_then c (λ n. Ok (n / 1)) ≡ c
+whole (Ok n) = ap Ok (div-one n)
+whole (Err r) = refl
 
-fed : (b : Bool) (x y : Deadline) → cond (b && true) x y ≡ cond b x y
+fed : (b : Bool) (x y : Result (Option Time) Refusal) → cond (b && true) x y ≡ cond b x y
 fed true x y = refl
 fed false x y = refl
 
@@ -75,28 +71,28 @@ module _ (k : Clocks) (free : has_zero k ≡ false) where
   unfolding tap_ticks source_of routed_ticks
   system_ticks now = rw (free, direct) (whole (domain_ticks k.system now))
 
-  system_edge : (n : ℕ) → tap_edge k n (system_tap 1) ≡ with_count (fits n) (after_of k.system.clock) Unset
+  system_edge : (n : ℕ) → tap_edge k n (system_tap 1) ≡ and_then (fits n) (after_of k.system.clock)
   unfolding tap_edge source_of routed_edge
   system_edge n = rw (free, direct, mul-one n)
 
   edge_deadline_lem : (n : ℕ) → edge_deadline (system_tap 1) k n ≡ domain_deadline k.system n
   unfolding edge_deadline domain_deadline available_of fed_by source_of
   edge_deadline_lem n =
-      rw (free, system_edge n) (fed k.system.running (dated (with_count (fits n) (after_of k.system.clock) Unset)) Never)
+      rw (free, system_edge n) (fed k.system.running (dated (and_then (fits n) (after_of k.system.clock))) (Ok None))
 
   started : (n : ℕ) → started_at (system_tap 1) k n ≡ system_started_at k.system n
   unfolding started_at system_started_at
   started n = ap (started_by (wait_of (system_tap 1) (Running n))) (edge_deadline_lem n)
 
-  started_by_lem : (c : Count) → with_count c (started_at (system_tap 1) k) Refused ≡ with_count c (system_started_at k.system) Refused
-  started_by_lem (Of n) = started n
-  started_by_lem (Uncounted r) = refl
+  started_by_lem : (c : Result ℕ Refusal) → and_then c (started_at (system_tap 1) k) ≡ and_then c (system_started_at k.system)
+  started_by_lem (Ok n) = started n
+  started_by_lem (Err r) = refl
 
-  counted : (n : ℕ) (c : Count)
-      → with_count c (λ m. with_count (fits (m + n)) (started_at (system_tap 1) k) Refused) Refused
-      ≡ with_count c (λ m. with_count (fits (m + n)) (system_started_at k.system) Refused) Refused
-  counted n (Of m) = started_by_lem (fits (m + n))
-  counted n (Uncounted r) = refl
+  counted : (n : ℕ) (c : Result ℕ Refusal)
+      → and_then c (λ m. and_then (fits (m + n)) (started_at (system_tap 1) k))
+      ≡ and_then c (λ m. and_then (fits (m + n)) (system_started_at k.system))
+  counted n (Ok m) = started_by_lem (fits (m + n))
+  counted n (Err r) = refl
 
   -- `ClockWait::after` on the tap system/1
   pub system_after_lem : (now : Time) (n : ℕ) → wait_after now n (system_tap 1) k ≡ system_after now n k.system

@@ -1,5 +1,5 @@
 // The clock set of the chip: its sources, the prescalers behind them, the counts and edges of their outputs, and waits for edges.
-// The names are those of mcu/clocks.rs. A refusal is its number in document 01.
+// The names are those of mcu/clocks.rs.
 #![tactic(auto)]
 
 ghost use Rattle.std.specs.Prelude.{◌≡◌, false};
@@ -12,15 +12,14 @@ pub mod system;
 pub mod tap;
 pub mod wait;
 
-use counts::{Truth, ZERO_FREQUENCY, checked_add, checked_mul};
+use counts::{checked_add, checked_mul};
 use domain::Domain;
 use prescaler::{PrescalerS, PrescalerW};
+use refusals::Refusal;
 use tap::{Route, Source, Tap, is_within};
-use time::{Clock, Count, Moment, Time};
+use time::{Clock, Time};
 
-pub const ZERO_DIVIDER: u8 = 2;
-
-#[derive(Clone, Copy)]
+#[derive(Clone, Copy, Debug, PartialEq, Eq)]
 pub struct Frequencies {
     pub main_hz: u64,
     pub watch_hz: u64,
@@ -28,7 +27,7 @@ pub struct Frequencies {
 }
 
 // The domains that a tap can name, and the two prescalers.
-#[derive(Clone, Copy)]
+#[derive(Clone, Copy, Debug, PartialEq, Eq)]
 pub struct Clocks {
     pub system: Domain,
     pub cpu: Domain,
@@ -40,17 +39,18 @@ pub struct Clocks {
     pub prescaler_w: PrescalerW,
 }
 
-// A clock set, and refusal 1 where it holds a zero, 0 otherwise; for a move of the set also 7.
-#[derive(Clone, Copy)]
+// A clock set, and what ended its making or its move: `ZeroFrequency` where it holds a zero, for a move also `Overflow`. The set is there where
+// that was refused too.
+#[derive(Clone, Copy, Debug, PartialEq, Eq)]
 pub struct NewClocks {
-    pub refusal: u8,
+    pub ended: Result<(), Refusal>,
     pub clocks: Clocks,
 }
 
-impl Frequencies {
-    pub fn default() -> Frequencies
-        ensures { result ≡ default_frequencies }
-    {
+impl Default for Frequencies {
+    ghost is_default = { λ f. f ≡ default_frequencies };
+
+    fn default() -> Frequencies {
         Frequencies {
             main_hz: 3_686_400,
             watch_hz: 32_768,
@@ -77,6 +77,7 @@ fn domain_at(now: Time, hz: u64, divide: u64) -> Domain
     }
 }
 
+#[tactic(auto, unfolding(crate::specs::Clocks::clock_set))]
 fn clock_set(now: Time, frequencies: Frequencies) -> Clocks
     ensures { result ≡ clock_set now frequencies }
 {
@@ -99,22 +100,21 @@ fn clock_set(now: Time, frequencies: Frequencies) -> Clocks
 }
 
 impl Clocks {
+    #[tactic(auto, unfolding(crate::specs::Clocks::new_clocks))]
     pub fn new(now: Time, frequencies: Frequencies) -> NewClocks
         ensures { result ≡ new_clocks now frequencies }
     {
         let clocks = clock_set(now, frequencies);
-        let zero = clocks.has_zero();
-        if zero {
-            NewClocks {
-                refusal: ZERO_FREQUENCY,
-                clocks,
-            }
+        let ended = if clocks.has_zero() {
+            Err(Refusal::ZeroFrequency)
         } else {
-            NewClocks { refusal: 0, clocks }
-        }
+            Ok(())
+        };
+        NewClocks { ended, clocks }
     }
 
     // Whether some clock of the set holds a zero frequency or denominator, or a fraction that isn't below its numerator.
+    #[tactic(auto, unfolding(crate::specs::Clocks::has_zero))]
     pub fn has_zero(self) -> bool
         ensures { result ≡ has_zero self }
     {
@@ -127,6 +127,7 @@ impl Clocks {
         system | cpu | watch | on_chip | oscillator | subclock
     }
 
+    #[tactic(auto, unfolding(crate::specs::Clocks::source_of))]
     pub(crate) fn source(self, source: Source) -> Domain
         ensures { result ≡ source_of self source }
     {
@@ -141,91 +142,80 @@ impl Clocks {
     }
 
     // The edges of a tap, where so many of its source were counted.
-    fn routed_ticks(self, divide: u32, raw: u64, route: Route) -> Count
+    #[tactic(auto, unfolding(crate::specs::Clocks::routed_ticks))]
+    fn routed_ticks(self, divide: u32, raw: u64, route: Route) -> Result<u64, Refusal>
         ensures { result ≡ routed_ticks self divide raw route }
     {
         match route {
             Route::ThroughS(s) => self.prescaler_s.ticks(raw, s),
             Route::ThroughW(s) => self.prescaler_w.ticks(raw / 4, s),
             Route::Direct => if divide == 0 {
-                Count::Refused(ZERO_DIVIDER)
+                Err(Refusal::ZeroDivider)
             } else {
-                Count::Of(raw / (divide as u64))
+                Ok(raw / (divide as u64))
             },
         }
     }
 
-    pub fn ticks(self, now: Time, tap: Tap) -> Count
+    #[tactic(auto, unfolding(crate::specs::Clocks::tap_ticks))]
+    pub fn ticks(self, now: Time, tap: Tap) -> Result<u64, Refusal>
         ensures { result ≡ tap_ticks self now tap }
     {
-        let zero = self.has_zero();
-        if zero {
-            return Count::Refused(ZERO_FREQUENCY);
+        if self.has_zero() {
+            return Err(Refusal::ZeroFrequency);
         }
         self.counted(now, tap)
     }
 
     // The edges of a tap, in a set without a zero.
-    pub(crate) fn counted(self, now: Time, tap: Tap) -> Count
+    #[tactic(auto, unfolding(crate::specs::Clocks::tap_ticks))]
+    pub(crate) fn counted(self, now: Time, tap: Tap) -> Result<u64, Refusal>
         requires { has_zero self ≡ false }
         ensures { result ≡ tap_ticks self now tap }
     {
-        let source = tap.source;
-        match self.source(source).ticks(now) {
-            Count::Of(raw) => self.routed_ticks(tap.divide, raw, tap.route()),
-            Count::Refused(k) => Count::Refused(k),
-        }
+        let raw = self.source(tap.source).ticks(now)?;
+        self.routed_ticks(tap.divide, raw, tap.route())
     }
 
     // The source's edge that is the tap's edge of that number.
-    fn routed_edge(self, divide: u32, tick: u64, route: Route) -> Count
+    #[tactic(auto, unfolding(crate::specs::Clocks::routed_edge))]
+    fn routed_edge(self, divide: u32, tick: u64, route: Route) -> Result<u64, Refusal>
         ensures { result ≡ routed_edge self divide tick route }
     {
         match route {
             Route::ThroughS(s) => self.prescaler_s.parent_edge(tick, s),
-            Route::ThroughW(s) => match self.prescaler_w.parent_edge(tick, s) {
-                Count::Of(quarter) => checked_mul(quarter, 4),
-                Count::Refused(k) => Count::Refused(k),
-            },
+            Route::ThroughW(s) => checked_mul(self.prescaler_w.parent_edge(tick, s)?, 4),
             Route::Direct => checked_mul(tick, divide as u64),
         }
     }
 
-    pub fn edge(self, tick: u64, tap: Tap) -> Moment
+    #[tactic(auto, unfolding(crate::specs::Clocks::tap_edge))]
+    pub fn edge(self, tick: u64, tap: Tap) -> Result<Time, Refusal>
         ensures { result ≡ tap_edge self tick tap }
     {
-        let zero = self.has_zero();
-        if zero {
-            return Moment::Refused(ZERO_FREQUENCY);
+        if self.has_zero() {
+            return Err(Refusal::ZeroFrequency);
         }
-        let source = tap.source;
-        let domain = self.source(source);
-        self.edge_by(domain.clock, tick, tap)
+        self.edge_by(self.source(tap.source).clock, tick, tap)
     }
 
     // The time of a tap's edge, by its source's clock.
-    pub(crate) fn edge_by(self, clock: Clock, tick: u64, tap: Tap) -> Moment
+    pub(crate) fn edge_by(self, clock: Clock, tick: u64, tap: Tap) -> Result<Time, Refusal>
         ensures { result ≡ edge_by self clock tick tap }
     {
-        match self.routed_edge(tap.divide, tick, tap.route()) {
-            Count::Of(target) => clock.after(target),
-            Count::Refused(k) => Moment::Refused(k),
-        }
+        clock.after(self.routed_edge(tap.divide, tick, tap.route())?)
     }
 
-    pub fn after(self, now: Time, edges: u64, tap: Tap) -> Moment
+    #[tactic(auto, unfolding(crate::specs::Clocks::tap_after))]
+    pub fn after(self, now: Time, edges: u64, tap: Tap) -> Result<Time, Refusal>
         ensures { result ≡ tap_after self now edges tap }
     {
-        match self.ticks(now, tap) {
-            Count::Of(count) => match checked_add(count, edges) {
-                Count::Of(target) => self.edge(target, tap),
-                Count::Refused(k) => Moment::Refused(k),
-            },
-            Count::Refused(k) => Moment::Refused(k),
-        }
+        let count = self.ticks(now, tap)?;
+        self.edge(checked_add(count, edges)?, tap)
     }
 
     // Whether the prescaler that a divider needs is running.
+    #[tactic(auto, unfolding(crate::specs::Clocks::fed_by))]
     pub(crate) fn is_fed(self, source: Source, divide: u32) -> bool
         ensures { result ≡ fed_by self source divide }
     {
@@ -234,72 +224,64 @@ impl Clocks {
         match source {
             Source::System => !by_s | self.prescaler_s.divider.running,
             Source::Watch => !by_w | self.prescaler_w.divider.running,
-            Source::Cpu => true,
-            Source::OnChip => true,
-            Source::Oscillator => true,
-            Source::Subclock => true,
+            Source::Cpu | Source::OnChip | Source::Oscillator | Source::Subclock => true,
         }
     }
 
-    pub fn available(self, tap: Tap) -> Truth
+    #[tactic(auto, unfolding(crate::specs::Clocks::available_of))]
+    pub fn available(self, tap: Tap) -> Result<bool, Refusal>
         ensures { result ≡ available_of self tap }
     {
-        let zero = self.has_zero();
-        if zero {
-            return Truth::Refused(ZERO_FREQUENCY);
+        if self.has_zero() {
+            return Err(Refusal::ZeroFrequency);
         }
-        let source = tap.source;
-        let domain = self.source(source);
-        let fed = self.is_fed(source, tap.divide);
-        Truth::Is(domain.running & fed)
+        let fed = self.is_fed(tap.source, tap.divide);
+        Ok(self.source(tap.source).running & fed)
     }
 
     // The level of a tap, where so many edges of its source were counted.
-    fn routed_high(self, tap: Tap, now: Time, raw: u64, route: Route) -> Truth
+    #[tactic(auto, unfolding(crate::specs::Clocks::routed_high))]
+    fn routed_high(self, tap: Tap, now: Time, raw: u64, route: Route) -> Result<bool, Refusal>
         ensures { result ≡ routed_high self tap now raw route }
     {
-        let source = tap.source;
         match route {
             Route::ThroughS(s) => self.prescaler_s.high(raw, s),
             Route::ThroughW(s) => self.prescaler_w.high(raw / 4, s),
             Route::Direct => if tap.divide < 2 {
-                self.source(source).level_high(now, raw)
+                self.source(tap.source).level_high(now, raw)
             } else {
-                Truth::Is(raw % (tap.divide as u64) < ((tap.divide / 2) as u64))
+                Ok(raw % (tap.divide as u64) < ((tap.divide / 2) as u64))
             },
         }
     }
 
-    pub fn high(self, now: Time, tap: Tap) -> Truth
+    #[tactic(auto, unfolding(crate::specs::Clocks::tap_high))]
+    pub fn high(self, now: Time, tap: Tap) -> Result<bool, Refusal>
         ensures { result ≡ tap_high self now tap }
     {
-        let zero = self.has_zero();
-        if zero {
-            return Truth::Refused(ZERO_FREQUENCY);
+        if self.has_zero() {
+            return Err(Refusal::ZeroFrequency);
         }
-        let source = tap.source;
-        match self.source(source).ticks(now) {
-            Count::Of(raw) => self.routed_high(tap, now, raw, tap.route()),
-            Count::Refused(k) => Truth::Refused(k),
-        }
+        let raw = self.source(tap.source).ticks(now)?;
+        self.routed_high(tap, now, raw, tap.route())
     }
 
-    pub fn system_half_ticks(self, now: Time) -> Count
+    #[tactic(auto, unfolding(crate::specs::Half::half_ticks))]
+    pub fn system_half_ticks(self, now: Time) -> Result<u64, Refusal>
         ensures { result ≡ half_ticks self now }
     {
-        let zero = self.has_zero();
-        if zero {
-            return Count::Refused(ZERO_FREQUENCY);
+        if self.has_zero() {
+            return Err(Refusal::ZeroFrequency);
         }
         self.system.half_ticks(now)
     }
 
-    pub fn system_half_edge(self, tick: u64) -> Moment
+    #[tactic(auto, unfolding(crate::specs::Half::half_edge))]
+    pub fn system_half_edge(self, tick: u64) -> Result<Time, Refusal>
         ensures { result ≡ half_edge self tick }
     {
-        let zero = self.has_zero();
-        if zero {
-            return Moment::Refused(ZERO_FREQUENCY);
+        if self.has_zero() {
+            return Err(Refusal::ZeroFrequency);
         }
         self.system.half_edge(tick)
     }

@@ -1,11 +1,11 @@
 // The outputs of the clock set that can be counted: a source and a divider.
 ghost use Rattle.std.specs.Prelude.{◌≡◌, ◌-◌};
 ghost use Rattle.clocks.specs.declared.tap.Source.TheVariants.{System, Cpu, Watch, OnChip, Oscillator, Subclock};
-ghost use Rattle.clocks.specs.Tap.{tap_of, source_number, same_tap, tap_validate, stage_of, within, route_s, route_w, route_of};
+ghost use Rattle.clocks.specs.Tap.{tap_of, same_tap, tap_validate, stage_of, within, route_s, route_w, route_of};
 
-const ZERO_TAP: u8 = 11;
+use refusals::Refusal;
 
-#[derive(Clone, Copy)]
+#[derive(Clone, Copy, Debug, PartialEq, Eq)]
 pub enum Source {
     System,
     Cpu,
@@ -15,48 +15,28 @@ pub enum Source {
     Subclock,
 }
 
-#[derive(Clone, Copy)]
+#[derive(Clone, Copy, Debug, PartialEq, Eq)]
 pub struct Tap {
     pub source: Source,
     pub divide: u32,
 }
 
-// The exponent of a power of two.
-#[derive(Clone, Copy)]
-pub enum Stage {
-    At(u32),
-    NoStage,
-}
-
 // Where the edges of a tap come from: a stage of prescaler S or W, or the source itself.
-#[derive(Clone, Copy)]
+#[derive(Clone, Copy, Debug, PartialEq, Eq)]
 pub enum Route {
     ThroughS(u32),
     ThroughW(u32),
     Direct,
 }
 
-fn source_number(source: Source) -> u8
-    ensures { result ≡ source_number source }
-{
-    match source {
-        Source::System => 0,
-        Source::Cpu => 1,
-        Source::Watch => 2,
-        Source::OnChip => 3,
-        Source::Oscillator => 4,
-        Source::Subclock => 5,
-    }
-}
-
-// A power of two has one bit, with as many zeros below it as its exponent says.
-fn stage_of(divide: u32) -> Stage
+// The exponent of a power of two. That has one bit, with as many zeros below it as its exponent says.
+fn stage_of(divide: u32) -> Option<u32>
     ensures { result ≡ stage_of divide }
 {
-    if u32::count_ones(divide) == 1 {
-        return Stage::At(u32::trailing_zeros(divide));
+    if divide.count_ones() == 1 {
+        return Some(divide.trailing_zeros());
     }
-    Stage::NoStage
+    None
 }
 
 // Whether a number is one of `a` to `b`.
@@ -66,28 +46,28 @@ pub(crate) fn is_within(a: u32, b: u32, n: u32) -> bool
     (a <= n) & (n <= b)
 }
 
-fn route_s(stage: Stage) -> Route
+#[tactic(auto, unfolding(crate::specs::Tap::route_s))]
+fn route_s(stage: Option<u32>) -> Route
     ensures { result ≡ route_s stage }
 {
-    let Stage::At(s) = stage else {
+    let Some(s) = stage else {
         return Route::Direct;
     };
-    let inside = is_within(1, 13, s);
-    if inside {
+    if is_within(1, 13, s) {
         Route::ThroughS(s)
     } else {
         Route::Direct
     }
 }
 
-fn route_w(stage: Stage) -> Route
+#[tactic(auto, unfolding(crate::specs::Tap::route_w))]
+fn route_w(stage: Option<u32>) -> Route
     ensures { result ≡ route_w stage }
 {
-    let Stage::At(s) = stage else {
+    let Some(s) = stage else {
         return Route::Direct;
     };
-    let inside = is_within(3, 10, s);
-    if inside {
+    if is_within(3, 10, s) {
         Route::ThroughW(s - 2)
     } else {
         Route::Direct
@@ -149,35 +129,33 @@ impl Tap {
         }
     }
 
-    // 0, or refusal 11 for the divider 0.
-    pub fn validate(self) -> u8
+    // `ZeroTap` for the divider 0.
+    #[tactic(auto, unfolding(crate::specs::Tap::tap_validate))]
+    pub fn validate(self) -> Result<(), Refusal>
         ensures { result ≡ tap_validate self }
     {
-        let zero = self.divide == 0;
-        if zero { ZERO_TAP } else { 0 }
+        if self.divide == 0 {
+            return Err(Refusal::ZeroTap);
+        }
+        Ok(())
     }
 
+    // `==`, kept as a method since its contract says it in `same_tap`, which the waits' definitions cite.
+    #[tactic(auto, unfolding(crate::specs::Tap::same_tap))]
     pub fn same(self, other: Tap) -> bool
         ensures { result ≡ same_tap self other }
     {
-        let ours = self.source;
-        let theirs = other.source;
-        let one = source_number(ours);
-        let two = source_number(theirs);
-        (one == two) & (self.divide == other.divide)
+        self == other
     }
 
+    #[tactic(auto, unfolding(crate::specs::Tap::route_of))]
     pub fn route(self) -> Route
         ensures { result ≡ route_of self }
     {
-        let source = self.source;
-        match source {
+        match self.source {
             Source::System => route_s(stage_of(self.divide)),
             Source::Watch => route_w(stage_of(self.divide)),
-            Source::Cpu => Route::Direct,
-            Source::OnChip => Route::Direct,
-            Source::Oscillator => Route::Direct,
-            Source::Subclock => Route::Direct,
+            Source::Cpu | Source::OnChip | Source::Oscillator | Source::Subclock => Route::Direct,
         }
     }
 }

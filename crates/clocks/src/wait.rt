@@ -1,15 +1,15 @@
 // A wait for a number of edges of a tap, counted in edges and not in seconds.
 ghost use Rattle.std.specs.Prelude.{◌≡◌};
-ghost use Rattle.clocks.specs.Wait.{wait_of, kept, dated, started_by, wait_after, wait_deadline, left_at, paused_by, wait_pause, resumed_as, wait_resume, wait_validate, is_paused, moved_to, selected_by, wait_select};
+ghost use Rattle.clocks.specs.Wait.{kept, dated, wait_after, wait_deadline, wait_pause, paused_by, resumed_as, wait_resume, wait_validate, wait_select};
 ghost use Rattle.clocks.specs.Tap.{same_tap};
-ghost use Rattle.clocks.specs.declared.wait.WaitState.TheVariants.{Running, Paused};
 
+use super::Clocks;
 use super::tap::Tap;
-use super::{Clocks, ZERO_DIVIDER};
-use counts::{REVERSED, ZERO_FREQUENCY, checked_add};
-use time::{Count, Moment, Time};
+use counts::checked_add;
+use refusals::Refusal;
+use time::Time;
 
-#[derive(Clone, Copy)]
+#[derive(Clone, Copy, Debug, PartialEq, Eq)]
 pub enum WaitState {
     Running(u64),
     Paused(u64),
@@ -17,214 +17,150 @@ pub enum WaitState {
 }
 
 // A number of edges of a tap to wait for: running to the edge of a number, paused with so many left, or over at a time.
-#[derive(Clone, Copy)]
+#[derive(Clone, Copy, Debug, PartialEq, Eq)]
 pub struct ClockWait {
     pub tap: Tap,
     pub state: WaitState,
 }
 
-// A wait that was started, or the number of the refusal.
-#[derive(Clone, Copy)]
-pub enum NewWait {
-    Made(ClockWait),
-    Refused(u8),
-}
-
-// The time at which a wait ends, none while it is paused or its tap is not available, or the number of a refusal.
-#[derive(Clone, Copy)]
-pub enum Deadline {
-    Never,
-    At(Time),
-    Refused(u8),
-}
-
-// The number of the refusal, 0 where there is none, and the wait that is left.
-#[derive(Clone, Copy)]
+// What ended a call, and the wait that is left: a refused `select` may leave another one than it found.
+#[derive(Clone, Copy, Debug, PartialEq, Eq)]
 pub struct Waited {
-    pub refusal: u8,
+    pub ended: Result<(), Refusal>,
     pub wait: ClockWait,
 }
 
-// A time as a deadline.
-pub fn dated(edge: Moment) -> Deadline
+// A time as a deadline: when a wait ends, none while it is paused or its tap is not available.
+#[tactic(auto, unfolding(crate::specs::Wait::dated))]
+pub fn dated(edge: Result<Time, Refusal>) -> Result<Option<Time>, Refusal>
     ensures { result ≡ dated edge }
 {
-    match edge {
-        Moment::At(at) => Deadline::At(at),
-        Moment::Refused(k) => Deadline::Refused(k),
-    }
+    Ok(Some(edge?))
 }
 
 impl ClockWait {
-    // The wait, unless its deadline is refused.
-    pub(crate) fn started_by(self, deadline: Deadline) -> NewWait
-        ensures { result ≡ started_by self deadline }
-    {
-        match deadline {
-            Deadline::Never => NewWait::Made(self),
-            Deadline::At(_) => NewWait::Made(self),
-            Deadline::Refused(k) => NewWait::Refused(k),
-        }
-    }
-
-    // A running wait to the edge of that number.
-    pub(crate) fn running_to(tap: Tap, target: u64) -> ClockWait
-        ensures { result ≡ wait_of tap (Running target) }
-    {
-        ClockWait {
-            tap,
-            state: WaitState::Running(target),
-        }
-    }
-
-    pub fn after(now: Time, edges: u64, tap: Tap, clocks: Clocks) -> NewWait
+    #[tactic(auto, unfolding(crate::specs::Wait::wait_after, crate::specs::Wait::started_for, crate::specs::Wait::started_at, crate::specs::Wait::started_by, crate::specs::Wait::wait_deadline))]
+    pub fn after(now: Time, edges: u64, tap: Tap, clocks: Clocks) -> Result<ClockWait, Refusal>
         ensures { result ≡ wait_after now edges tap clocks }
     {
-        let zero = clocks.has_zero();
-        if zero {
-            return NewWait::Refused(ZERO_FREQUENCY);
+        if clocks.has_zero() {
+            return Err(Refusal::ZeroFrequency);
         }
-        let undivided = tap.divide == 0;
-        if undivided {
-            return NewWait::Refused(ZERO_DIVIDER);
+        if tap.divide == 0 {
+            return Err(Refusal::ZeroDivider);
         }
-        let none = edges == 0;
-        if none {
-            return NewWait::Made(ClockWait {
+        if edges == 0 {
+            return Ok(ClockWait {
                 tap,
                 state: WaitState::Ready(now),
             });
         }
-        match clocks.counted(now, tap) {
-            Count::Of(count) => match checked_add(count, edges) {
-                Count::Of(target) => {
-                    let wait = ClockWait::running_to(tap, target);
-                    wait.started_by(wait.deadline(clocks))
-                }
-                Count::Refused(k) => NewWait::Refused(k),
-            },
-            Count::Refused(k) => NewWait::Refused(k),
-        }
+        let target = checked_add(clocks.counted(now, tap)?, edges)?;
+        let wait = ClockWait {
+            tap,
+            state: WaitState::Running(target),
+        };
+        wait.deadline(clocks)?;
+        Ok(wait)
     }
 
-    pub fn deadline(self, clocks: Clocks) -> Deadline
+    #[tactic(auto, unfolding(crate::specs::Wait::wait_deadline, crate::specs::Wait::edge_deadline, crate::specs::Wait::dated, crate::specs::Clocks::available_of, crate::specs::Clocks::tap_edge))]
+    pub fn deadline(self, clocks: Clocks) -> Result<Option<Time>, Refusal>
         ensures { result ≡ wait_deadline self clocks }
     {
-        let zero = clocks.has_zero();
-        if zero {
-            return Deadline::Refused(ZERO_FREQUENCY);
+        if clocks.has_zero() {
+            return Err(Refusal::ZeroFrequency);
         }
-        let state = self.state;
-        match state {
+        match self.state {
             WaitState::Running(target) => {
                 let tap = self.tap;
-                let source = tap.source;
-                let domain = clocks.source(source);
-                let fed = clocks.is_fed(source, tap.divide);
-                let available = domain.running & fed;
-                if available {
-                    dated(clocks.edge_by(domain.clock, target, tap))
+                let domain = clocks.source(tap.source);
+                if domain.running & clocks.is_fed(tap.source, tap.divide) {
+                    Ok(Some(clocks.edge_by(domain.clock, target, tap)?))
                 } else {
-                    Deadline::Never
+                    Ok(None)
                 }
             }
-            WaitState::Paused(_) => Deadline::Never,
-            WaitState::Ready(at) => Deadline::At(at),
+            WaitState::Paused(_) => Ok(None),
+            WaitState::Ready(at) => Ok(Some(at)),
         }
     }
 
-    // The wait, and the number of a refusal, 0 for none.
-    fn kept(self, refusal: u8) -> Waited
-        ensures { result ≡ kept refusal self }
+    // The wait, and what ended the call.
+    fn kept(self, ended: Result<(), Refusal>) -> Waited
+        ensures { result ≡ kept ended self }
     {
-        Waited {
-            refusal,
-            wait: self,
+        Waited { ended, wait: self }
+    }
+
+    // Another wait, or this one where that is refused.
+    #[tactic(auto, unfolding(crate::specs::Wait::resumed_as))]
+    fn resumed_as(self, started: Result<ClockWait, Refusal>) -> Waited
+        ensures { result ≡ resumed_as self started }
+    {
+        match started {
+            Ok(wait) => wait.kept(Ok(())),
+            Err(refusal) => self.kept(Err(refusal)),
         }
     }
 
-    fn paused_with(self, remaining: u64) -> Waited
-        ensures { result ≡ kept 0 (wait_of self.tap (Paused remaining)) }
+    // The wait paused with the edges that are left of it, whether or not its time has passed.
+    #[tactic(auto, unfolding(crate::specs::Wait::paused_by, crate::specs::Wait::left_at, crate::specs::Wait::resumed_as))]
+    fn stopped(self, now: Time, clocks: Clocks) -> Result<ClockWait, Refusal>
+        ensures { resumed_as self result ≡ paused_by self now clocks self.state }
     {
-        Waited {
-            refusal: 0,
-            wait: ClockWait {
-                state: WaitState::Paused(remaining),
-                ..self
+        let left = match self.state {
+            WaitState::Running(target) => target
+                .checked_sub(clocks.ticks(now, self.tap)?)
+                .ok_or(Refusal::Reversed)?,
+            WaitState::Paused(_) => return Ok(self),
+            WaitState::Ready(_) => 0,
+        };
+        Ok(ClockWait {
+            state: WaitState::Paused(left),
+            ..self
+        })
+    }
+
+    // The same, unless its time has passed.
+    #[tactic(auto, unfolding(crate::specs::Wait::wait_pause, crate::specs::Wait::resumed_as, time::specs::Time::earlier))]
+    fn paused(self, now: Time, clocks: Clocks) -> Result<ClockWait, Refusal>
+        ensures { resumed_as self result ≡ wait_pause self now clocks }
+    {
+        match self.deadline(clocks)? {
+            Some(at) => if at < now {
+                Err(Refusal::Reversed)
+            } else {
+                self.stopped(now, clocks)
             },
-        }
-    }
-
-    // A wait to the edge of that number, paused where so many were counted.
-    fn left_at(self, target: u64, count: u64) -> Waited
-        ensures { result ≡ left_at self target count }
-    {
-        if target < count {
-            self.kept(REVERSED)
-        } else {
-            self.paused_with(target - count)
-        }
-    }
-
-    fn paused_by(self, now: Time, clocks: Clocks) -> Waited
-        ensures { result ≡ paused_by self now clocks self.state }
-    {
-        let state = self.state;
-        match state {
-            WaitState::Running(target) => match clocks.ticks(now, self.tap) {
-                Count::Of(count) => self.left_at(target, count),
-                Count::Refused(k) => self.kept(k),
-            },
-            WaitState::Paused(_) => self.kept(0),
-            WaitState::Ready(_) => self.paused_with(0),
+            None => self.stopped(now, clocks),
         }
     }
 
     pub fn pause(self, now: Time, clocks: Clocks) -> Waited
         ensures { result ≡ wait_pause self now clocks }
     {
-        match self.deadline(clocks) {
-            Deadline::Never => self.paused_by(now, clocks),
-            Deadline::At(at) => {
-                let past = at.before(now);
-                if past {
-                    self.kept(REVERSED)
-                } else {
-                    self.paused_by(now, clocks)
-                }
-            }
-            Deadline::Refused(k) => self.kept(k),
-        }
+        self.resumed_as(self.paused(now, clocks))
     }
 
-    fn resumed_as(self, started: NewWait) -> Waited
-        ensures { result ≡ resumed_as self started }
-    {
-        match started {
-            NewWait::Made(wait) => wait.kept(0),
-            NewWait::Refused(k) => self.kept(k),
-        }
-    }
-
+    #[tactic(auto, unfolding(crate::specs::Wait::wait_resume, crate::specs::Wait::resumed_as))]
     pub fn resume(self, now: Time, clocks: Clocks) -> Waited
         ensures { result ≡ wait_resume self now clocks }
     {
-        let zero = clocks.has_zero();
-        if zero {
-            return self.kept(ZERO_FREQUENCY);
+        if clocks.has_zero() {
+            return self.kept(Err(Refusal::ZeroFrequency));
         }
-        let state = self.state;
-        match state {
-            WaitState::Running(_) => self.kept(0),
+        match self.state {
             WaitState::Paused(remaining) => self.resumed_as(ClockWait::after(
                 now, remaining, self.tap, clocks,
             )),
-            WaitState::Ready(_) => self.kept(0),
+            WaitState::Running(_) | WaitState::Ready(_) => self.kept(Ok(())),
         }
     }
 
-    // 0, or refusal 11 where the wait's tap has the divider 0.
-    pub fn validate(self) -> u8
+    // `ZeroTap` where the wait's tap has the divider 0.
+    #[tactic(auto, unfolding(crate::specs::Wait::wait_validate))]
+    pub fn validate(self) -> Result<(), Refusal>
         ensures { result ≡ wait_validate self }
     {
         self.tap.validate()
@@ -236,58 +172,30 @@ impl ClockWait {
         self.tap.same(tap)
     }
 
-    fn is_paused(self) -> bool
-        ensures { result ≡ is_paused self.state }
-    {
-        let state = self.state;
-        match state {
-            WaitState::Running(_) => false,
-            WaitState::Paused(_) => true,
-            WaitState::Ready(_) => false,
-        }
-    }
-
-    // The paused wait on another tap, paused or running as this one.
-    fn moved_to(self, now: Time, tap: Tap, clocks: Clocks, paused: ClockWait) -> Waited
-        ensures { result ≡ moved_to self now tap clocks paused }
-    {
-        let state = paused.state;
-        let next = ClockWait { tap, state };
-        let stays = self.is_paused();
-        if stays {
-            next.kept(0)
-        } else {
-            next.resume(now, clocks)
-        }
-    }
-
-    // The wait on another tap, once it is paused.
-    fn selected_by(self, now: Time, tap: Tap, clocks: Clocks, paused: Waited) -> Waited
-        ensures { result ≡ selected_by self now tap clocks paused }
-    {
-        let fine = paused.refusal == 0;
-        if fine {
-            self.moved_to(now, tap, clocks, paused.wait)
-        } else {
-            paused
-        }
-    }
-
+    #[tactic(auto, unfolding(crate::specs::Wait::wait_select, crate::specs::Wait::selected_by, crate::specs::Wait::moved_to))]
     pub fn select(self, now: Time, tap: Tap, clocks: Clocks) -> Waited
         ensures { result ≡ wait_select self now tap clocks }
     {
-        let zero = clocks.has_zero();
-        if zero {
-            return self.kept(ZERO_FREQUENCY);
+        if clocks.has_zero() {
+            return self.kept(Err(Refusal::ZeroFrequency));
         }
-        let undivided = tap.divide == 0;
-        if undivided {
-            return self.kept(ZERO_DIVIDER);
+        if tap.divide == 0 {
+            return self.kept(Err(Refusal::ZeroDivider));
         }
-        let same = self.uses(tap);
-        if same {
-            return self.kept(0);
+        if self.uses(tap) {
+            return self.kept(Ok(()));
         }
-        self.selected_by(now, tap, clocks, self.pause(now, clocks))
+        let paused = self.pause(now, clocks);
+        if paused.ended.is_err() {
+            return paused;
+        }
+        let next = ClockWait {
+            tap,
+            state: paused.wait.state,
+        };
+        if matches!(self.state, WaitState::Paused(_)) {
+            return next.kept(Ok(()));
+        }
+        next.resume(now, clocks)
     }
 }

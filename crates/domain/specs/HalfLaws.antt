@@ -1,6 +1,6 @@
 -- Laws: counts and half counts of a domain, and its half edges: one lies between its neighbouring edges, they come in order, one whose number is above the
 -- count doesn't come before now, and at a half edge at most two more are counted than its number. Assumes nothing.
-use Rattle.std.specs.Prelude.{Bool, not, ◌≡◌, ℕ, ◌+◌, ◌-◌, ◌*◌, ◌/◌, ◌%◌, ◌^◌, ◌≤◌, ◌<◌, ltb}
+use Rattle.std.specs.Prelude.{Bool, not, ◌≡◌, ℕ, ◌+◌, ◌-◌, ◌*◌, ◌/◌, ◌%◌, ◌^◌, ◌≤◌, ◌<◌, ltb, Result, Ok, Err}
 use Rattle.std.proofs.Math.Bool.{true, false, cond}
 use Rattle.std.proofs.Math.Logic.{⊎_elim}
 use Rattle.std.proofs.Math.Path.{refl, sym, ap, subst}
@@ -11,14 +11,12 @@ use borrow.Author.Tests.{eqb-true, eqb-false, ltb-true, ne_eqb}
 use Rattle.std.proofs.Math.Dec.{eqb}
 use Rattle.time.specs.Clock.{after_of, edge_of, edges_before, zero_in}
 use Rattle.time.proofs.Laws.{after_is, counted, edge_mono, edges_before_ge, edges_before_of_lem, lt_or_le, midway_time, moment_at, moment_time, no_zero, uncounted}
-use Rattle.time.proofs.NextLaws.{after_at_lem, edge_steps, moment_fits, next_le, next_near, refused_not_at, same_at, same_of, slow, uncounted_not_of}
+use Rattle.time.proofs.NextLaws.{after_at_lem, edge_steps, moment_fits, next_le, next_near, slow}
 use Rattle.time.specs.Time.{earlier, midway, next_time, time_from, time_of}
 use Rattle.time.specs.Truths.{and_right}
 use Rattle.time.specs.declared.Clock.{Clock}
-use Rattle.time.specs.declared.Count.{Count}
-use Rattle.time.specs.declared.Count.TheVariants.{Of, Refused as Uncounted}
-use Rattle.time.specs.declared.Moment.{Moment}
-use Rattle.time.specs.declared.Moment.TheVariants.{At, Refused}
+use Rattle.refusals.specs.declared.Refusal.{Refusal}
+use Rattle.refusals.proofs.Laws.{err_not_ok, same_ok}
 use Rattle.time.specs.declared.Time.{Time}
 use Rattle.domain.specs.Domain.{domain_half_edge, domain_half_ticks, domain_ticks, edge_or_last, halves, halves_of, high_between, level_high, odd_edge, shown}
 use Rattle.domain.specs.declared.Domain.{Domain}
@@ -30,28 +28,28 @@ module _ (d : Domain) where
   -- ## Counts
 
   -- the ordinal is counted, whether the domain runs or not
-  ordinal_counted : (now : Time) (n : ℕ) → domain_ticks d now ≡ Of n → c.ordinal ≤ n
+  ordinal_counted : (now : Time) (n : ℕ) → domain_ticks d now ≡ Ok n → c.ordinal ≤ n
   unfolding domain_ticks
   ordinal_counted now n e = go (zero_in c) refl d.running refl
     where
       go : (z : Bool) → zero_in c ≡ z → (r : Bool) → d.running ≡ r → c.ordinal ≤ n
-      go true f r g = absurd (uncounted_not_of (rw f at e))
+      go true f r g = absurd (err_not_ok (rw f at e))
       go false f true g =
-          let is : edges_before c (time_of (next_time now)) ≡ n = same_of (sym (edges_before_of_lem c (next_time now) f) ∙ (rw (f, g) at e)) in
+          let is : edges_before c (time_of (next_time now)) ≡ n = same_ok (sym (edges_before_of_lem c (next_time now) f) ∙ (rw (f, g) at e)) in
           subst (λ (x : ℕ). c.ordinal ≤ x) is (edges_before_ge c (time_of (next_time now)))
-      go false f false g = le_of_eq (same_of (rw (f, g) at e))
+      go false f false g = le_of_eq (same_ok (rw (f, g) at e))
 
   -- what a count of a domain that runs tells
-  running_count : d.running ≡ true → (now : Time) (n : ℕ) → domain_ticks d now ≡ Of n → (zero_in c ≡ false) × (n ≡ edges_before c (time_of (next_time now)))
+  running_count : d.running ≡ true → (now : Time) (n : ℕ) → domain_ticks d now ≡ Ok n → (zero_in c ≡ false) × (n ≡ edges_before c (time_of (next_time now)))
   unfolding domain_ticks
   running_count on now n e = go (zero_in c) refl
     where
       go : (z : Bool) → zero_in c ≡ z → (zero_in c ≡ false) × (n ≡ edges_before c (time_of (next_time now)))
-      go true f = absurd (uncounted_not_of (rw f at e))
-      go false f = (f, same_of (sym (rw (f, on) at e) ∙ edges_before_of_lem c (next_time now) f))
+      go true f = absurd (err_not_ok (rw f at e))
+      go false f = (f, same_ok (sym (rw (f, on) at e) ∙ edges_before_of_lem c (next_time now) f))
 
   -- an edge whose number is above the count doesn't come before now
-  pub edge_later : d.running ≡ true → (now : Time) (t n : ℕ) → domain_ticks d now ≡ Of t → t < n → n < 2 ^ 64 → (u : Time) → after_of c n ≡ At u → time_of now ≤ time_of u
+  pub edge_later : d.running ≡ true → (now : Time) (t n : ℕ) → domain_ticks d now ≡ Ok t → t < n → n < 2 ^ 64 → (u : Time) → after_of c n ≡ Ok u → time_of now ≤ time_of u
   edge_later on now t n e less word u f =
       let count = running_count on now t e in
       let some = no_zero c count.0 in
@@ -69,16 +67,16 @@ module _ (d : Domain) where
   is_high now n = high_between (shown d now) (edge_or_last c n) (edge_or_last c (n + 1))
 
   -- what a half count tells
-  half_parts : (now : Time) (t : ℕ) → domain_half_ticks d now ≡ Of t → (n : ℕ) × (domain_ticks d now ≡ Of n) × (n < 2 ^ 63) × (t ≡ 2 * n + cond (is_high now n) 0 1)
+  half_parts : (now : Time) (t : ℕ) → domain_half_ticks d now ≡ Ok t → (n : ℕ) × (domain_ticks d now ≡ Ok n) × (n < 2 ^ 63) × (t ≡ 2 * n + cond (is_high now n) 0 1)
   unfolding domain_half_ticks halves_of halves level_high
   half_parts now t e = go (domain_ticks d now) refl
     where
       Parts : Type 0
-      Parts = (n : ℕ) × (domain_ticks d now ≡ Of n) × (n < 2 ^ 63) × (t ≡ 2 * n + cond (is_high now n) 0 1)
+      Parts = (n : ℕ) × (domain_ticks d now ≡ Ok n) × (n < 2 ^ 63) × (t ≡ 2 * n + cond (is_high now n) 0 1)
 
-      go : (x : Count) → domain_ticks d now ≡ x → Parts
-      go (Uncounted r) f = absurd (uncounted_not_of (rw f at e))
-      go (Of n) f = doubled (ltb n (2 ^ 63)) refl
+      go : (x : Result ℕ Refusal) → domain_ticks d now ≡ x → Parts
+      go (Err r) f = absurd (err_not_ok (rw f at e))
+      go (Ok n) f = doubled (ltb n (2 ^ 63)) refl
         where
           below : n < 2 ^ 63 → n ≡ 2 ^ 64 - 1 → ⊥
           below g h = omega arith
@@ -86,11 +84,11 @@ module _ (d : Domain) where
           doubled : (b : Bool) → ltb n (2 ^ 63) ≡ b → Parts
           doubled true g =
               let less : n < 2 ^ 63 = ltb-true n (2 ^ 63) g in
-              (n, f, less, sym (same_of (rw (f, g, ne_eqb n (2 ^ 64 - 1) (below less)) at e)))
-          doubled false g = absurd (uncounted_not_of (rw (f, g) at e))
+              (n, f, less, sym (same_ok (rw (f, g, ne_eqb n (2 ^ 64 - 1) (below less)) at e)))
+          doubled false g = absurd (err_not_ok (rw (f, g) at e))
 
   -- none is below that of the ordinal
-  pub half_ordinal : (now : Time) (t : ℕ) → domain_half_ticks d now ≡ Of t → 2 * c.ordinal ≤ t
+  pub half_ordinal : (now : Time) (t : ℕ) → domain_half_ticks d now ≡ Ok t → 2 * c.ordinal ≤ t
   half_ordinal now t e =
       let parts = half_parts now t e in
       doubled c.ordinal parts.0 (cond (is_high now parts.0) 0 1) (ordinal_counted now parts.0 parts.1) parts.3
@@ -109,17 +107,17 @@ module _ (d : Domain) where
     pub fits : edge_of d.clock ((n + 1) / 2) < 2 ^ 128
     pub odd : n % 2 ≡ 1 → u ≡ midway (edge_or_last d.clock (n / 2)) (edge_or_last d.clock (n / 2 + 1))
 
-  pub half_edge_lem : (n : ℕ) (u : Time) → domain_half_edge d n ≡ At u → HalfEdge n u
+  pub half_edge_lem : (n : ℕ) (u : Time) → domain_half_edge d n ≡ Ok u → HalfEdge n u
   unfolding domain_half_edge odd_edge edge_or_last
   half_edge_lem n u e = go (after_of c (n / 2)) refl (eqb (n % 2) 0) refl (after_of c (n / 2 + 1)) refl
     where
-      go : (a : Moment) → after_of c (n / 2) ≡ a → (p : Bool) → eqb (n % 2) 0 ≡ p → (b : Moment) → after_of c (n / 2 + 1) ≡ b → HalfEdge n u
-      go (Refused m) f p h b g = absurd (refused_not_at (rw f at e))
-      go (At x) f true h b g =
+      go : (a : Result Time Refusal) → after_of c (n / 2) ≡ a → (p : Bool) → eqb (n % 2) 0 ≡ p → (b : Result Time Refusal) → after_of c (n / 2 + 1) ≡ b → HalfEdge n u
+      go (Err m) f p h b g = absurd (err_not_ok (rw f at e))
+      go (Ok x) f true h b g =
           let even : n % 2 ≡ 0 = eqb-true (n % 2) 0 h in
           let same : (n + 1) / 2 ≡ n / 2 = omega arith in
           let told = after_at_lem c (n / 2) x f in
-          let is : time_of u ≡ edge_of c (n / 2) = ap time_of (sym (same_at (rw (f, h) at e))) ∙ moment_time (edge_of c (n / 2)) x told.2 in
+          let is : time_of u ≡ edge_of c (n / 2) = ap time_of (sym (same_ok (rw (f, h) at e))) ∙ moment_time (edge_of c (n / 2)) x told.2 in
           record {
             free = told.0;
             from = told.1;
@@ -131,11 +129,11 @@ module _ (d : Domain) where
         where
           differ : {m : ℕ} → m ≡ 0 → m ≡ 1 → ⊥
           differ p q = omega arith
-      go (At x) f false h (Refused m) g = absurd (refused_not_at (rw (f, h, g) at e))
-      go (At x) f false h (At y) g =
+      go (Ok x) f false h (Err m) g = absurd (err_not_ok (rw (f, h, g) at e))
+      go (Ok x) f false h (Ok y) g =
           let odd : (n % 2 ≡ 0) → ⊥ = eqb-false (n % 2) 0 h in
           let next : (n + 1) / 2 ≡ n / 2 + 1 = omega arith in
-          let is : midway x y ≡ u = same_at (rw (f, h, g) at e) in
+          let is : midway x y ≡ u = same_ok (rw (f, h, g) at e) in
           let told = after_at_lem c (n / 2) x f in
           let at_x : time_of x ≡ edge_of c (n / 2) = moment_time (edge_of c (n / 2)) x told.2 in
           let at_y : time_of y ≡ edge_of c (n / 2 + 1) = moment_time (edge_of c (n / 2 + 1)) y (after_at_lem c (n / 2 + 1) y g).2 in
@@ -157,14 +155,14 @@ module _ (d : Domain) where
           before a b x y u p q r s = omega arith
 
   -- from that of the ordinal on there is one where the edge after it is a time
-  half_there : (n : ℕ) → zero_in c ≡ false → c.ordinal ≤ n / 2 → edge_of c ((n + 1) / 2) < 2 ^ 128 → (u : Time) × (domain_half_edge d n ≡ At u)
+  half_there : (n : ℕ) → zero_in c ≡ false → c.ordinal ≤ n / 2 → edge_of c ((n + 1) / 2) < 2 ^ 128 → (u : Time) × (domain_half_edge d n ≡ Ok u)
   unfolding domain_half_edge odd_edge
   half_there n free from less = go (eqb (n % 2) 0) refl
     where
-      set : (m : ℕ) → c.ordinal ≤ m → edge_of c m < 2 ^ 128 → after_of c m ≡ At (time_from (edge_of c m))
+      set : (m : ℕ) → c.ordinal ≤ m → edge_of c m < 2 ^ 128 → after_of c m ≡ Ok (time_from (edge_of c m))
       set m le f = after_is c m free le ∙ moment_at (edge_of c m) f
 
-      go : (p : Bool) → eqb (n % 2) 0 ≡ p → (u : Time) × (domain_half_edge d n ≡ At u)
+      go : (p : Bool) → eqb (n % 2) 0 ≡ p → (u : Time) × (domain_half_edge d n ≡ Ok u)
       go true h =
           let even : n % 2 ≡ 0 = eqb-true (n % 2) 0 h in
           let same : (n + 1) / 2 ≡ n / 2 = omega arith in
@@ -180,16 +178,16 @@ module _ (d : Domain) where
           more p = omega arith
 
   -- from there on, half edges come in order, and there is one where there is a later one
-  pub half_order : (m n : ℕ) → 2 * c.ordinal ≤ m → m ≤ n → (u : Time) → domain_half_edge d n ≡ At u → (t : Time) × (domain_half_edge d m ≡ At t) × (time_of t ≤ time_of u)
+  pub half_order : (m n : ℕ) → 2 * c.ordinal ≤ m → m ≤ n → (u : Time) → domain_half_edge d n ≡ Ok u → (t : Time) × (domain_half_edge d m ≡ Ok t) × (time_of t ≤ time_of u)
   half_order m n from le u e = ⊎_elim less same (lt_or_le m n)
     where
       halved : (o m : ℕ) → 2 * o ≤ m → o ≤ m / 2
       halved o m p = omega arith
 
-      same : n ≤ m → (t : Time) × (domain_half_edge d m ≡ At t) × (time_of t ≤ time_of u)
+      same : n ≤ m → (t : Time) × (domain_half_edge d m ≡ Ok t) × (time_of t ≤ time_of u)
       same f = let is : m ≡ n = omega arith in (u, rw is e, le_refl (time_of u))
 
-      less : m < n → (t : Time) × (domain_half_edge d m ≡ At t) × (time_of t ≤ time_of u)
+      less : m < n → (t : Time) × (domain_half_edge d m ≡ Ok t) × (time_of t ≤ time_of u)
       less f =
           let above = half_edge_lem n u e in
           let near : (m + 1) / 2 ≤ n / 2 = omega arith in
@@ -201,11 +199,11 @@ module _ (d : Domain) where
 
   module _ (on : d.running ≡ true) where
     -- a half edge whose number is above the half count doesn't come before now
-    pub half_later : (now : Time) (t n : ℕ) → domain_half_ticks d now ≡ Of t → t < n → (u : Time) → domain_half_edge d n ≡ At u → time_of now ≤ time_of u
+    pub half_later : (now : Time) (t n : ℕ) → domain_half_ticks d now ≡ Ok t → t < n → (u : Time) → domain_half_edge d n ≡ Ok u → time_of now ≤ time_of u
     unfolding high_between earlier
     half_later now t n e less u f = ⊎_elim far (near (is_high now m) refl) (lt_or_le (2 * m + 1) n)
       where
-        parts : (m : ℕ) × (domain_ticks d now ≡ Of m) × (m < 2 ^ 63) × (t ≡ 2 * m + cond (is_high now m) 0 1)
+        parts : (m : ℕ) × (domain_ticks d now ≡ Ok m) × (m < 2 ^ 63) × (t ≡ 2 * m + cond (is_high now m) 0 1)
         parts = half_parts now t e
 
         m : ℕ
@@ -242,10 +240,10 @@ module _ (d : Domain) where
 
     -- at a half edge, at most two more are counted than its number, where edges are at different times
     pub half_counted : c.numerator < 2 ^ 64 → (now : Time) (t n : ℕ) (u : Time)
-        → domain_half_edge d n ≡ At u → time_of u ≡ time_of now → domain_half_ticks d now ≡ Of t → t ≤ n + 2
+        → domain_half_edge d n ≡ Ok u → time_of u ≡ time_of now → domain_half_ticks d now ≡ Ok t → t ≤ n + 2
     half_counted word now t n u e is f = ⊎_elim (λ h. absurd (over h)) (λ h. h) (lt_or_le (n + 2) t)
       where
-        parts : (m : ℕ) × (domain_ticks d now ≡ Of m) × (m < 2 ^ 63) × (t ≡ 2 * m + cond (is_high now m) 0 1)
+        parts : (m : ℕ) × (domain_ticks d now ≡ Ok m) × (m < 2 ^ 63) × (t ≡ 2 * m + cond (is_high now m) 0 1)
         parts = half_parts now t f
 
         m : ℕ

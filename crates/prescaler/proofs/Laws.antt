@@ -1,19 +1,10 @@
 -- Laws of the stages of a prescaler. Assumes nothing.
 use mathlib.Core.Path.{◌≡◌, sym, ap, ◌∙◌, subst}
-use mathlib.Core.Bool.{false}
 use Prim.Native.Nat.{ℕ, suc, ◌+◌, ◌*◌, ◌/◌, ◌%◌, ◌^◌, ◌≤◌, ◌<◌}
-use native.Mathlib.Nat.{add_comm, add-mul-div_right, div-add-mod', div-lt_iff_lt-mul, le_of_suc-le-suc, mul-le-mul_left, mul-one, one-mul, pos_of_ne-zero, suc-mul}
+use native.Mathlib.Nat.{add_comm, add-mul-div_right, div-add-mod', div-lt_iff_lt-mul, le_of_suc-le-suc, mul-le-mul_left, mul-one, one-mul, suc-mul}
 use native.Mathlib.Omega.{arith}
-use borrow.Author.Tests.{eqb-false, ltb-false}
-use lib.Dec.{eqb, lit<, ltb}
+use lib.Dec.{lit<}
 use lib.Pow.{pow_mono, pow_pos, shl_exact}
-use Rattle.time.specs.Truths.{or_left, or_right}
-use Rattle.prescaler.specs.Prescaler.{outside}
-
--- a stage that isn't outside 1 to n
-pub inside : (n s : ℕ) → outside n s ≡ false → (0 < s) × (s ≤ n)
-inside n s e =
-    (pos_of_ne-zero (eqb-false s 0 (or_left (eqb s 0) (ltb n s) e)), ltb-false n s (or_right (eqb s 0) (ltb n s) e))
 
 -- one shifted left, at 64 bits
 pub one_shl : (s : ℕ) → s < 64 → (1 * 2 ^ s) % 2 ^ 64 ≡ 2 ^ s

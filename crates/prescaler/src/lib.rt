@@ -1,18 +1,19 @@
-// The ripple dividers: prescaler S of 13 stages behind the system clock, prescaler W of 8 behind the watch clock. Stage s divides
-// by 2^s. The Rust has them as Prescaler<13> and Prescaler<8>.
+// The ripple dividers: prescaler S of 13 stages behind the system clock, prescaler W of 8 behind the watch clock. Stage s divides by 2^s. A
+// phase of 16 bits is that of no more than 13 stages, and of more only these are looked at.
 #![tactic(auto)]
 
-ghost use Rattle.std.specs.Prelude.{◌≡◌, ◌+◌, ◌-◌, ◌*◌, ◌%◌, ◌^◌, ◌≤◌, ◌<◌, ltb};
+ghost use Rattle.std.specs.Prelude.{◌≡◌, ◌+◌, ◌-◌, ◌*◌, ◌%◌, ◌^◌, ltb, min};
 ghost use Rattle.counts.specs.Counts.{fits};
-ghost use Rattle.prescaler.specs.Prescaler.{fresh, fresh_s, fresh_w, outside, elapsed, crossed, stage_crossings, stage_ticks, stage_high, parent_edge, stage_edge};
+ghost use Rattle.prescaler.specs.Prescaler.{fresh, fresh_of, elapsed, crossed, stage_crossings, stage_ticks, stage_high, parent_edge, stage_edge};
 
-use counts::{OVERFLOW, REVERSED, Truth, checked_add, saturating_sub};
-use time::Count;
+mod stage;
 
-const BAD_STAGE: u8 = 3;
+use counts::{checked_add, checked_mul};
+use refusals::Refusal;
+use stage::Stage;
 
-// What the two prescalers share: the parent's count when the phase was settled, the phase then, and whether it counts.
-#[derive(Clone, Copy)]
+// What the stages of a prescaler share: the parent's count when the phase was settled, the phase then, and whether it counts.
+#[derive(Clone, Copy, Debug, PartialEq, Eq)]
 pub struct Divider {
     pub anchor: u64,
     pub phase: u16,
@@ -20,53 +21,15 @@ pub struct Divider {
 }
 
 // A divider, and how many edges each of its stages had given at the anchor.
-#[derive(Clone, Copy)]
-pub struct PrescalerS {
+#[derive(Clone, Copy, Debug, PartialEq, Eq)]
+pub struct Prescaler<const STAGES: usize> {
     pub divider: Divider,
-    pub emitted: [u64; 13],
+    pub emitted: [u64; STAGES],
 }
 
-#[derive(Clone, Copy)]
-pub struct PrescalerW {
-    pub divider: Divider,
-    pub emitted: [u64; 8],
-}
+pub type PrescalerS = Prescaler<13>;
 
-// Whether the stage is none of 1 to `stages`.
-fn is_outside(stages: u32, shift: u32) -> bool
-    ensures { result ≡ outside stages shift }
-{
-    (shift == 0) | (stages < shift)
-}
-
-// What stage `shift` divides by.
-fn power(shift: u32) -> u64
-    requires { shift ≤ 13 }
-    ensures { result ≡ 2 ^ shift }
-{
-    1u64 << shift
-}
-
-// How often a counter that stands at the phase passes a multiple of 2^shift in that many edges.
-fn crossings(phase: u16, elapsed: u64, shift: u32) -> u64
-    requires { shift ≤ 13 }
-    ensures { result ≡ crossed phase elapsed shift }
-{
-    let step = power(shift);
-    elapsed / step + ((phase as u64) % step + elapsed % step) / step
-}
-
-// The sum of the base and of so many steps.
-fn scaled_sum(base: u64, edges: u64, step: u64) -> Count
-    requires { 0 < step }
-    ensures { result ≡ fits (base + edges * step) }
-{
-    if edges <= (u64::MAX - base) / step {
-        Count::Of(base + edges * step)
-    } else {
-        Count::Refused(OVERFLOW)
-    }
-}
+pub type PrescalerW = Prescaler<8>;
 
 impl Divider {
     fn new() -> Divider
@@ -80,159 +43,89 @@ impl Divider {
     }
 
     // The parent's edges since the anchor.
+    #[tactic(auto, unfolding(crate::specs::Prescaler::elapsed))]
     fn elapsed(self, parent: u64) -> u64
         ensures { result ≡ elapsed self parent }
     {
         if self.running {
-            saturating_sub(parent, self.anchor)
+            parent.saturating_sub(self.anchor)
         } else {
             0
         }
     }
 
     // The edges of a stage that had given `emitted` at the anchor.
-    fn ticks(self, emitted: u64, parent: u64, shift: u32) -> Count
-        requires { shift ≤ 13 }
-        ensures { result ≡ fits (emitted + crossed self.phase (elapsed self parent) shift) }
+    fn ticks(self, emitted: u64, parent: u64, stage: Stage) -> Result<u64, Refusal>
+        ensures { result ≡ fits (emitted + crossed self.phase (elapsed self parent) stage.shift) }
     {
         let edges = self.elapsed(parent);
-        let since = crossings(self.phase, edges, shift);
-        checked_add(emitted, since)
+        checked_add(emitted, stage.crossings(self.phase, edges))
     }
 
-    fn high(self, parent: u64, shift: u32) -> bool
-        requires { (1 ≤ shift) × (shift ≤ 13) }
-        ensures { result ≡ ltb ((self.phase + elapsed self parent) % 2 ^ shift) (2 ^ (shift - 1)) }
+    fn high(self, parent: u64, stage: Stage) -> bool
+        ensures { result ≡ ltb ((self.phase + elapsed self parent) % 2 ^ stage.shift) (2 ^ (stage.shift - 1)) }
     {
         let edges = self.elapsed(parent);
-        let step = power(shift);
-        let half = power(shift - 1);
+        let step = stage.step();
+        let half = 1u64 << (stage.shift - 1);
         ((self.phase as u64) % step + edges % step) % step < half
     }
 
     // The parent's edge that is the edge of that number of a stage that had given `emitted` at the anchor.
-    fn parent_edge(self, emitted: u64, tick: u64, shift: u32) -> Count
-        requires { shift ≤ 13 }
-        ensures { result ≡ parent_edge self emitted tick shift }
+    #[tactic(auto, unfolding(crate::specs::Prescaler::parent_edge, counts::specs::Counts::fits))]
+    fn parent_edge(self, emitted: u64, tick: u64, stage: Stage) -> Result<u64, Refusal>
+        ensures { result ≡ parent_edge self emitted tick stage.shift }
     {
-        if tick < emitted {
-            return Count::Refused(REVERSED);
-        }
-        let step = power(shift);
+        let edges = tick.checked_sub(emitted).ok_or(Refusal::Reversed)?;
+        let step = stage.step();
         let past = (self.phase as u64) % step;
-        if self.anchor < past {
-            return Count::Refused(OVERFLOW);
-        }
-        scaled_sum(self.anchor - past, tick - emitted, step)
+        let start = self.anchor.checked_sub(past).ok_or(Refusal::Overflow)?;
+        checked_add(start, checked_mul(edges, step)?)
     }
 }
 
-impl PrescalerS {
-    pub fn new() -> PrescalerS
-        ensures { result ≡ fresh_s }
+impl<const STAGES: usize> Prescaler<STAGES> {
+    pub fn new() -> Self
+        ensures { result ≡ fresh_of STAGES }
     {
-        PrescalerS {
+        Prescaler {
             divider: Divider::new(),
-            emitted: [0; 13],
+            emitted: [0; STAGES],
         }
     }
 
-    pub fn crossings(phase: u16, elapsed: u64, shift: u32) -> Count
-        ensures { result ≡ stage_crossings 13 phase elapsed shift }
+    #[tactic(auto, unfolding(crate::specs::Prescaler::stage_crossings))]
+    pub fn crossings(phase: u16, elapsed: u64, shift: u32) -> Result<u64, Refusal>
+        ensures { result ≡ stage_crossings (min STAGES 13) phase elapsed shift }
     {
-        let out = is_outside(13, shift);
-        if out {
-            return Count::Refused(BAD_STAGE);
-        }
-        Count::Of(crossings(phase, elapsed, shift))
+        let stage = Stage::of(STAGES, shift)?;
+        Ok(stage.crossings(phase, elapsed))
     }
 
-    pub fn ticks(self, parent: u64, shift: u32) -> Count
-        ensures { result ≡ stage_ticks 13 self.divider self.emitted parent shift }
+    #[tactic(auto, unfolding(crate::specs::Prescaler::stage_ticks))]
+    pub fn ticks(self, parent: u64, shift: u32) -> Result<u64, Refusal>
+        ensures { result ≡ stage_ticks (min STAGES 13) self.entry.divider self.entry.emitted parent shift }
     {
-        let out = is_outside(13, shift);
-        if out {
-            return Count::Refused(BAD_STAGE);
-        }
+        let stage = Stage::of(STAGES, shift)?;
         let emitted = self.emitted;
-        let at = (shift - 1) as usize;
-        self.divider.ticks(emitted[at], parent, shift)
+        self.divider.ticks(emitted[stage.index()], parent, stage)
     }
 
-    pub fn high(self, parent: u64, shift: u32) -> Truth
-        ensures { result ≡ stage_high 13 self.divider parent shift }
+    #[tactic(auto, unfolding(crate::specs::Prescaler::stage_high))]
+    pub fn high(self, parent: u64, shift: u32) -> Result<bool, Refusal>
+        ensures { result ≡ stage_high (min STAGES 13) self.entry.divider parent shift }
     {
-        let out = is_outside(13, shift);
-        if out {
-            return Truth::Refused(BAD_STAGE);
-        }
-        Truth::Is(self.divider.high(parent, shift))
+        let stage = Stage::of(STAGES, shift)?;
+        Ok(self.divider.high(parent, stage))
     }
 
-    pub fn parent_edge(self, tick: u64, shift: u32) -> Count
-        ensures { result ≡ stage_edge 13 self.divider self.emitted tick shift }
+    #[tactic(auto, unfolding(crate::specs::Prescaler::stage_edge))]
+    pub fn parent_edge(self, tick: u64, shift: u32) -> Result<u64, Refusal>
+        ensures { result ≡ stage_edge (min STAGES 13) self.entry.divider self.entry.emitted tick shift }
     {
-        let out = is_outside(13, shift);
-        if out {
-            return Count::Refused(BAD_STAGE);
-        }
+        let stage = Stage::of(STAGES, shift)?;
         let emitted = self.emitted;
-        let at = (shift - 1) as usize;
-        self.divider.parent_edge(emitted[at], tick, shift)
-    }
-}
-
-impl PrescalerW {
-    pub fn new() -> PrescalerW
-        ensures { result ≡ fresh_w }
-    {
-        PrescalerW {
-            divider: Divider::new(),
-            emitted: [0; 8],
-        }
-    }
-
-    pub fn crossings(phase: u16, elapsed: u64, shift: u32) -> Count
-        ensures { result ≡ stage_crossings 8 phase elapsed shift }
-    {
-        let out = is_outside(8, shift);
-        if out {
-            return Count::Refused(BAD_STAGE);
-        }
-        Count::Of(crossings(phase, elapsed, shift))
-    }
-
-    pub fn ticks(self, parent: u64, shift: u32) -> Count
-        ensures { result ≡ stage_ticks 8 self.divider self.emitted parent shift }
-    {
-        let out = is_outside(8, shift);
-        if out {
-            return Count::Refused(BAD_STAGE);
-        }
-        let emitted = self.emitted;
-        let at = (shift - 1) as usize;
-        self.divider.ticks(emitted[at], parent, shift)
-    }
-
-    pub fn high(self, parent: u64, shift: u32) -> Truth
-        ensures { result ≡ stage_high 8 self.divider parent shift }
-    {
-        let out = is_outside(8, shift);
-        if out {
-            return Truth::Refused(BAD_STAGE);
-        }
-        Truth::Is(self.divider.high(parent, shift))
-    }
-
-    pub fn parent_edge(self, tick: u64, shift: u32) -> Count
-        ensures { result ≡ stage_edge 8 self.divider self.emitted tick shift }
-    {
-        let out = is_outside(8, shift);
-        if out {
-            return Count::Refused(BAD_STAGE);
-        }
-        let emitted = self.emitted;
-        let at = (shift - 1) as usize;
-        self.divider.parent_edge(emitted[at], tick, shift)
+        self.divider
+            .parent_edge(emitted[stage.index()], tick, stage)
     }
 }

@@ -1,5 +1,5 @@
 -- Laws of times, edges and counts, for the crates that use clocks. Assumes nothing.
-use Rattle.std.specs.Prelude.{◌≡◌, ℕ, zero, suc, ◌+◌, ◌-◌, ◌*◌, ◌/◌, ◌^◌, ◌<◌, ◌≤◌, min, Bool, true, false, cond, not, ◌||◌, ltb, ◌⊎◌, ◌==◌, nat_eq, nat_lt, refl}
+use Rattle.std.specs.Prelude.{◌≡◌, ℕ, zero, suc, ◌+◌, ◌-◌, ◌*◌, ◌/◌, ◌^◌, ◌<◌, ◌≤◌, min, Bool, true, false, cond, not, ◌||◌, ltb, ◌⊎◌, ◌==◌, nat_eq, nat_lt, refl, Ok, Err}
 use Rattle.std.proofs.Common.{sym, ◌∙◌, subst, inl, inr, ⊎_elim, add-zero, le-add_right, zero-mul, le_trans, le_refl, add-le-add, mul_assoc, mul-pos, mul-le-mul_right, eq-zero-or-pos, div-mul-le_self, le_of_eq, le-div_iff_mul-le, div-lt_iff_lt-mul, pos_of_ne-zero, lt_of_not-le, pow_pos}
 use Rattle.std.proofs.Math.Path.{ap}
 use Rattle.std.proofs.Math.Nat.{min-zero, zero-sub, zero-div, zero-min, div-zero}
@@ -10,8 +10,9 @@ use Rattle.std.proofs.Math.Pow.{split}
 use Rattle.time.specs.Time.{time_of, time_from, moment_of, since_of, next_time, midway}
 use Rattle.time.specs.Clock.{edge_of, count_to, edges_before, zero_in, after_of, edges_before_of, start_after}
 use Rattle.time.specs.declared.Time.{Time}
-use Rattle.time.specs.declared.Moment.TheVariants.{At, Refused}
-use Rattle.time.specs.declared.Count.TheVariants.{Of}
+use Rattle.refusals.specs.declared.Refusal.{Refusal}
+use Rattle.refusals.specs.declared.Refusal.TheVariants.{Overflow, Reversed}
+use Rattle.refusals.proofs.Laws.{err_not_ok, same_err, same_ok}
 use Rattle.time.specs.declared.Clock.{Clock}
 
 pub lt_or_le : (a b : ℕ) → (a < b) ⊎ (b ≤ a)
@@ -36,35 +37,23 @@ in_time n h l e high low = subst (λ (x : ℕ). x < 2 ^ 128) (sym e) (digits_lt 
 pub past_time : (n h : ℕ) → 2 ^ 64 ≤ h → h * 2 ^ 64 ≤ n → 2 ^ 128 ≤ n
 past_time n h big le = le_trans (mul-le-mul_right (2 ^ 64) big) le
 
-pub moment_at : (n : ℕ) → n < 2 ^ 128 → moment_of n ≡ At (time_from n)
+pub moment_at : (n : ℕ) → n < 2 ^ 128 → moment_of n ≡ Ok (time_from n)
 unfolding moment_of
 moment_at n less = rw (lt-ltb n (2 ^ 128) less)
 
-pub moment_past : (n : ℕ) → 2 ^ 128 ≤ n → moment_of n ≡ Refused 7
+pub moment_past : (n : ℕ) → 2 ^ 128 ≤ n → moment_of n ≡ Err Overflow
 unfolding moment_of
 moment_past n le = rw (le-ltb n (2 ^ 128) le)
 
 -- the time that a moment holds, and why one is refused
-pub moment_from : (n : ℕ) (t : Time) → moment_of n ≡ At t → t ≡ time_from n
-moment_from n t e = ⊎_elim (λ h. at (sym (moment_at n h) ∙ e)) (λ h. absurd (past (sym (moment_past n h) ∙ e))) (lt_or_le n (2 ^ 128))
-  where
-    at : At (time_from n) ≡ At t → t ≡ time_from n
-    at f = cc
+pub moment_from : (n : ℕ) (t : Time) → moment_of n ≡ Ok t → t ≡ time_from n
+moment_from n t e = ⊎_elim (λ h. same_ok (sym e ∙ moment_at n h)) (λ h. absurd (err_not_ok (sym (moment_past n h) ∙ e))) (lt_or_le n (2 ^ 128))
 
-    past : Refused 7 ≡ At t → ⊥
-    past f = let z : ◌≡◌ {A = ℕ} 0 1 = cc in omega arith
-
-pub moment_time : (n : ℕ) (t : Time) → moment_of n ≡ At t → time_of t ≡ n
+pub moment_time : (n : ℕ) (t : Time) → moment_of n ≡ Ok t → time_of t ≡ n
 moment_time n t e = ap (λ (x : Time). time_of x) (moment_from n t e) ∙ time_of_from n
 
-pub moment_refused : (n k : ℕ) → moment_of n ≡ Refused k → (k ≡ 7) × (2 ^ 128 ≤ n)
-moment_refused n k e = ⊎_elim (λ h. absurd (at (sym (moment_at n h) ∙ e))) (λ h. (past (sym (moment_past n h) ∙ e), h)) (lt_or_le n (2 ^ 128))
-  where
-    at : At (time_from n) ≡ Refused k → ⊥
-    at f = let z : ◌≡◌ {A = ℕ} 0 1 = cc in omega arith
-
-    past : Refused 7 ≡ Refused k → k ≡ 7
-    past f = cc
+pub moment_refused : (n : ℕ) (r : Refusal) → moment_of n ≡ Err r → (r ≡ Overflow) × (2 ^ 128 ≤ n)
+moment_refused n r e = ⊎_elim (λ h. absurd (err_not_ok (sym e ∙ moment_at n h))) (λ h. (same_err (sym e ∙ moment_past n h), h)) (lt_or_le n (2 ^ 128))
 
 -- one unit later, and the last time
 pub next_later : (t : Time) → time_of t + 1 < 2 ^ 128 → next_time t ≡ time_from (time_of t + 1)
@@ -79,11 +68,11 @@ pub midway_time : (a b : Time) → time_of (midway a b) ≡ time_of a + (time_of
 unfolding midway
 midway_time a b = time_of_from (time_of a + (time_of b - time_of a) / 2)
 
-pub since_at : (a b : Time) → time_of b ≤ time_of a → since_of a b ≡ At (time_from (time_of a - time_of b))
+pub since_at : (a b : Time) → time_of b ≤ time_of a → since_of a b ≡ Ok (time_from (time_of a - time_of b))
 unfolding since_of
 since_at a b le = rw (le-ltb (time_of a) (time_of b) le)
 
-pub since_reversed : (a b : Time) → time_of a < time_of b → since_of a b ≡ Refused 8
+pub since_reversed : (a b : Time) → time_of a < time_of b → since_of a b ≡ Err Reversed
 unfolding since_of
 since_reversed a b less = rw (lt-ltb (time_of a) (time_of b) less)
 
@@ -106,7 +95,7 @@ pub after_is : (c : Clock) (n : ℕ) → zero_in c ≡ false → c.ordinal ≤ n
 unfolding after_of
 after_is c n e le = rw (e, le-ltb n c.ordinal le)
 
-pub edges_before_of_lem : (c : Clock) (limit : Time) → zero_in c ≡ false → edges_before_of c limit ≡ Of (edges_before c (time_of limit))
+pub edges_before_of_lem : (c : Clock) (limit : Time) → zero_in c ≡ false → edges_before_of c limit ≡ Ok (edges_before c (time_of limit))
 unfolding edges_before_of
 edges_before_of_lem c limit e = rw e
 

@@ -1,12 +1,12 @@
 -- Laws of the move (document 02, (k)), over all of ℕ: by n and then by m is by n + m, refusals included; the edges from the new ordinal on, and the counts
 -- before a limit past the new start, are as they were. Assumes nothing.
-use Rattle.std.specs.Prelude.{◌≡◌, ℕ, zero, suc, ◌+◌, ◌-◌, ◌*◌, ◌/◌, ◌%◌, ◌^◌, ◌<◌, ◌≤◌, Bool, true, false, cond, ◌&&◌, ltb, nat_lt, refl}
+use Rattle.std.specs.Prelude.{◌≡◌, ℕ, zero, suc, ◌+◌, ◌-◌, ◌*◌, ◌/◌, ◌%◌, ◌^◌, ◌<◌, ◌≤◌, Bool, true, false, cond, ◌&&◌, ltb, nat_lt, refl, Ok, Err}
 use Rattle.std.proofs.Common.{true≢false, sym, ◌∙◌, ap, ap₂, subst, add_assoc, add-mul, div-add-mod', le_refl, le_trans, mod-lt, mul-le-mul_right, add-le-add, arith, ltb-true, lt-ltb, ne_eqb}
 use Rattle.std.proofs.Math.Nat.{add-mul-div_right, add-mul-mod_self_right}
-use Rattle.time.specs.declared.Moment.TheVariants.{At}
+use Rattle.refusals.specs.declared.Refusal.TheVariants.{ZeroFrequency, Overflow}
+use Rattle.refusals.specs.Refusals.{and_then}
 use Rattle.time.specs.declared.Clock.{Clock}
-use Rattle.time.specs.declared.NewClock.TheVariants.{Made as made, Refused as refused}
-use Rattle.time.specs.Clock.{after_of, and_move, count_to, edge_of, edges_before, in_width, move_of, moved_by, span, start_after, zero_in}
+use Rattle.time.specs.Clock.{after_of, count_to, edge_of, edges_before, in_width, move_of, moved_by, span, start_after, zero_in}
 use Rattle.time.specs.Time.{moment_of, time_from, time_of}
 use Rattle.time.specs.Truths.{and_left, and_right}
 use Rattle.time.proofs.Laws.{div_mono, edge_mono, edge_start, no_zero, time_of_from}
@@ -132,21 +132,21 @@ width_after : (c : Clock) (n m : ℕ) → 0 < c.numerator → in_width m (moved_
 unfolding moved_by
 width_after c n m pos = ap₂ (λ (x y : ℕ). nat_lt x (2 ^ 128) && nat_lt y (2 ^ 64)) (start_after_lem c n m pos) (add_assoc c.ordinal n m)
 
--- Moving by n and then by m is moving by n + m, and is refused exactly if that is, by the same number
-pub move_twice : (c : Clock) (n m : ℕ) → and_move (move_of n c) (move_of m) ≡ move_of (n + m) c
+-- Moving by n and then by m is moving by n + m, and is refused exactly if that is, for the same reason
+pub move_twice : (c : Clock) (n m : ℕ) → and_then (move_of n c) (move_of m) ≡ move_of (n + m) c
 unfolding move_of
 move_twice c n m = go (zero_in c) refl
   where
     second : (a b : Bool) → zero_in c ≡ false → in_width n c ≡ a → in_width (n + m) c ≡ b
-        → and_move (cond a (made (moved_by n c)) (refused 7)) (move_of m) ≡ cond b (made (moved_by (n + m) c)) (refused 7)
+        → and_then (cond a (Ok (moved_by n c)) (Err Overflow)) (move_of m) ≡ cond b (Ok (moved_by (n + m) c)) (Err Overflow)
     second true b e f g =
-        ap (λ (z : Bool). cond z (refused 1) (cond (in_width m (moved_by n c)) (made (moved_by m (moved_by n c))) (refused 7))) (moved_sound c n e)
-        ∙ ap₂ (λ (w : Bool) (x : Clock). cond w (made x) (refused 7)) (width_after c n m (no_zero c e).0 ∙ g) (moved_twice c n m (no_zero c e).0)
+        ap (λ (z : Bool). cond z (Err ZeroFrequency) (cond (in_width m (moved_by n c)) (Ok (moved_by m (moved_by n c))) (Err Overflow))) (moved_sound c n e)
+        ∙ ap₂ (λ (w : Bool) (x : Clock). cond w (Ok x) (Err Overflow)) (width_after c n m (no_zero c e).0 ∙ g) (moved_twice c n m (no_zero c e).0)
     second false true e f g = absurd (true≢false (sym (width_before c n m (no_zero c e).0 g) ∙ f))
     second false false e f g = refl
 
-    go : (a : Bool) → zero_in c ≡ a → and_move (cond a (refused 1) (cond (in_width n c) (made (moved_by n c)) (refused 7))) (move_of m)
-        ≡ cond a (refused 1) (cond (in_width (n + m) c) (made (moved_by (n + m) c)) (refused 7))
+    go : (a : Bool) → zero_in c ≡ a → and_then (cond a (Err ZeroFrequency) (cond (in_width n c) (Ok (moved_by n c)) (Err Overflow))) (move_of m)
+        ≡ cond a (Err ZeroFrequency) (cond (in_width (n + m) c) (Ok (moved_by (n + m) c)) (Err Overflow))
     go true e = refl
     go false e = second (in_width n c) (in_width (n + m) c) e refl refl
 
@@ -156,14 +156,14 @@ move_twice c n m = go (zero_in c) refl
 abbrev third : Clock
 third = record { start = record { seconds = 0; fraction = 0 }; numerator = 3; denominator = 1; ordinal = 0; fraction = 0 }
 
-pub third_moved : move_of 1 third ≡ made (record { start = record { seconds = 0; fraction = 0x5555555555555555 }; numerator = 3; denominator = 1; ordinal = 1; fraction = 1 })
+pub third_moved : move_of 1 third ≡ Ok (record { start = record { seconds = 0; fraction = 0x5555555555555555 }; numerator = 3; denominator = 1; ordinal = 1; fraction = 1 })
 unfolding move_of moved_by zero_in
 third_moved = refl
 
-pub third_edge : after_of (moved_by 1 third) 3 ≡ At (record { seconds = 1; fraction = 0 })
+pub third_edge : after_of (moved_by 1 third) 3 ≡ Ok (record { seconds = 1; fraction = 0 })
 unfolding after_of edge_of moment_of moved_by zero_in
 third_edge = refl
 
-pub fraction_dropped : after_of (record { start = record { seconds = 0; fraction = 0x5555555555555555 }; numerator = 3; denominator = 1; ordinal = 1; fraction = 0 }) 3 ≡ At (record { seconds = 0; fraction = 2 ^ 64 - 1 })
+pub fraction_dropped : after_of (record { start = record { seconds = 0; fraction = 0x5555555555555555 }; numerator = 3; denominator = 1; ordinal = 1; fraction = 0 }) 3 ≡ Ok (record { seconds = 0; fraction = 2 ^ 64 - 1 })
 unfolding after_of edge_of moment_of zero_in
 fraction_dropped = refl

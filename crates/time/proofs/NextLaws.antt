@@ -1,6 +1,6 @@
--- Laws: moments that are times and counts that are numbers, one unit later, and the next edge of a clock of less than 2 ^ 64 Hz, which is later. Assumes
+-- Laws: what an edge that has a time tells, one unit later, and the next edge of a clock of less than 2 ^ 64 Hz, which is later. Assumes
 -- nothing.
-use Rattle.std.specs.Prelude.{◌≡◌, ℕ, ◌+◌, ◌-◌, ◌*◌, ◌/◌, ◌^◌, ◌<◌, ◌≤◌, Bool, true, false, ◌≢◌, nat_lt, refl}
+use Rattle.std.specs.Prelude.{◌≡◌, ℕ, ◌+◌, ◌-◌, ◌*◌, ◌/◌, ◌^◌, ◌<◌, ◌≤◌, Bool, true, false, nat_lt, refl, Ok}
 use Rattle.std.proofs.Common.{⊎_elim, sym, ap, ◌∙◌, subst, le_refl, le_trans, mul-le-mul_right, one-mul, arith, ltb-false}
 use Rattle.std.proofs.Math.Nat.{add-div_right}
 use Rattle.time.specs.Clock.{after_of, edge_of, span, zero_in}
@@ -8,35 +8,20 @@ use Rattle.time.proofs.Laws.{div_mono, lt_or_le, moment_past, next_last, next_la
 use Rattle.time.proofs.MoveLaws.{span_grows, spans}
 use Rattle.time.specs.Time.{moment_of, next_time, time_of}
 use Rattle.time.specs.declared.Clock.{Clock}
-use Rattle.time.specs.declared.Count.TheVariants.{Of, Refused as Uncounted}
-use Rattle.time.specs.declared.Moment.TheVariants.{At, Refused}
+use Rattle.refusals.proofs.Laws.{err_not_ok}
 use Rattle.time.specs.declared.Time.{Time}
 
--- ## Moments and counts
-
-pub refused_not_at : {n : ℕ} {t : Time} → Refused n ≢ At t
-refused_not_at e = let z : ◌≡◌ {A = ℕ} 0 1 = cc in omega arith
-
-pub same_at : {s t : Time} → At s ≡ At t → s ≡ t
-same_at e = cc
-
-pub uncounted_not_of : {m n : ℕ} → Uncounted m ≢ Of n
-uncounted_not_of e = let z : ◌≡◌ {A = ℕ} 0 1 = cc in omega arith
-
-pub same_of : {m n : ℕ} → Of m ≡ Of n → m ≡ n
-same_of e = cc
-
-pub moment_fits : (n : ℕ) (t : Time) → moment_of n ≡ At t → n < 2 ^ 128
-moment_fits n t e = ⊎_elim (λ h. h) (λ h. absurd (refused_not_at (sym (moment_past n h) ∙ e))) (lt_or_le n (2 ^ 128))
+pub moment_fits : (n : ℕ) (t : Time) → moment_of n ≡ Ok t → n < 2 ^ 128
+moment_fits n t e = ⊎_elim (λ h. h) (λ h. absurd (err_not_ok (sym (moment_past n h) ∙ e))) (lt_or_le n (2 ^ 128))
 
 -- what an edge that has a time tells
-pub after_at_lem : (c : Clock) (n : ℕ) (t : Time) → after_of c n ≡ At t → (zero_in c ≡ false) × (c.ordinal ≤ n) × (moment_of (edge_of c n) ≡ At t)
+pub after_at_lem : (c : Clock) (n : ℕ) (t : Time) → after_of c n ≡ Ok t → (zero_in c ≡ false) × (c.ordinal ≤ n) × (moment_of (edge_of c n) ≡ Ok t)
 unfolding after_of
 after_at_lem c n t e = go (zero_in c) refl (nat_lt n c.ordinal) refl
   where
-    go : (z : Bool) → zero_in c ≡ z → (b : Bool) → nat_lt n c.ordinal ≡ b → (zero_in c ≡ false) × (c.ordinal ≤ n) × (moment_of (edge_of c n) ≡ At t)
-    go true f b g = absurd (refused_not_at (rw f at e))
-    go false f true g = absurd (refused_not_at (rw (f, g) at e))
+    go : (z : Bool) → zero_in c ≡ z → (b : Bool) → nat_lt n c.ordinal ≡ b → (zero_in c ≡ false) × (c.ordinal ≤ n) × (moment_of (edge_of c n) ≡ Ok t)
+    go true f b g = absurd (err_not_ok (rw f at e))
+    go false f true g = absurd (err_not_ok (rw (f, g) at e))
     go false f false g = (f, ltb-false n c.ordinal g, rw (f, g) at e)
 
 -- ## One unit later

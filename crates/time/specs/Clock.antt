@@ -1,14 +1,10 @@
 -- Definitions: the edges of a clock and their counts (document 01, module 1), and the move of its start (document 02, (k)).
-use Rattle.std.specs.Prelude.{ℕ, zero, suc, ◌+◌, ◌-◌, ◌*◌, ◌/◌, ◌%◌, ◌^◌, Bool, cond, not, ◌&&◌, ◌||◌, ltb, ◌==◌, nat_lt}
+use Rattle.std.specs.Prelude.{ℕ, zero, suc, ◌+◌, ◌-◌, ◌*◌, ◌/◌, ◌%◌, ◌^◌, Bool, cond, not, ◌&&◌, ◌||◌, ltb, ◌==◌, nat_lt, Result, Ok, Err}
 use Rattle.time.specs.Time.{time_from, time_of, moment_of}
 use Rattle.time.specs.declared.Time.{Time}
-use Rattle.time.specs.declared.Moment.{Moment}
-use Rattle.time.specs.declared.Moment.TheVariants as moment
-use Rattle.time.specs.declared.Count.{Count}
-use Rattle.time.specs.declared.Count.TheVariants as count
 use Rattle.time.specs.declared.Clock.{Clock}
-use Rattle.time.specs.declared.NewClock.{NewClock}
-use Rattle.time.specs.declared.NewClock.TheVariants as made
+use Rattle.refusals.specs.declared.Refusal.{Refusal}
+use Rattle.refusals.specs.declared.Refusal.TheVariants.{ZeroFrequency, Overflow, Reversed}
 
 -- edge n, for n from the ordinal on, of a clock with start s, numerator h, denominator d, ordinal o and fraction f:
 -- s + floor(((n - o) * d * 2 ^ 64 + f) / h) (document 01, module 1, where o and f are 0; document 02, (k))
@@ -31,19 +27,19 @@ unfoldable pub zero_in : Clock → Bool
 zero_in c = c.numerator == 0 || c.denominator == 0 || not (nat_lt c.fraction c.numerator)
 
 -- `Clock::new` of time.rs: the clock, or refusal 1
-abbrev pub unless_zero : Clock → NewClock
-unless_zero c = cond (zero_in c) (made.Refused 1) (made.Made c)
+abbrev pub unless_zero : Clock → Result Clock Refusal
+unless_zero c = cond (zero_in c) (Err ZeroFrequency) (Ok c)
 
-unfoldable pub new_clock : Time → ℕ → ℕ → NewClock
+unfoldable pub new_clock : Time → ℕ → ℕ → Result Clock Refusal
 new_clock s h d = unless_zero (record { start = s; numerator = h; denominator = d; ordinal = 0; fraction = 0 })
 
 -- `Clock::after` of time.rs, by the edge's own number: refusal 1 comes first (document 01, the order of refusals), then 8 below the ordinal
-unfoldable pub after_of : Clock → ℕ → Moment
-after_of c n = cond (zero_in c) (moment.Refused 1) (cond (nat_lt n c.ordinal) (moment.Refused 8) (moment_of (edge_of c n)))
+unfoldable pub after_of : Clock → ℕ → Result Time Refusal
+after_of c n = cond (zero_in c) (Err ZeroFrequency) (cond (nat_lt n c.ordinal) (Err Reversed) (moment_of (edge_of c n)))
 
 -- `Clock::edges_before` of time.rs, which always has a count
-unfoldable pub edges_before_of : Clock → Time → Count
-edges_before_of c limit = cond (zero_in c) (count.Refused 1) (count.Of (edges_before c (time_of limit)))
+unfoldable pub edges_before_of : Clock → Time → Result ℕ Refusal
+edges_before_of c limit = cond (zero_in c) (Err ZeroFrequency) (Ok (edges_before c (time_of limit)))
 
 -- ## The move: `Clock::advance` of time.rs
 
@@ -70,10 +66,5 @@ abbrev pub in_width : ℕ → Clock → Bool
 in_width n c = nat_lt (start_after n c) (2 ^ 128) && nat_lt (c.ordinal + n) (2 ^ 64)
 
 -- refusal 1 comes first, then 7 where the edge or the ordinal leaves its width
-unfoldable pub move_of : ℕ → Clock → NewClock
-move_of n c = cond (zero_in c) (made.Refused 1) (cond (in_width n c) (made.Made (moved_by n c)) (made.Refused 7))
-
--- one move after another that wasn't refused
-abbrev pub and_move : NewClock → (Clock → NewClock) → NewClock
-and_move (made.Made c) f = f c
-and_move (made.Refused r) f = made.Refused r
+unfoldable pub move_of : ℕ → Clock → Result Clock Refusal
+move_of n c = cond (zero_in c) (Err ZeroFrequency) (cond (in_width n c) (Ok (moved_by n c)) (Err Overflow))

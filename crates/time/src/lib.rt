@@ -6,32 +6,19 @@ ghost use Rattle.time.specs.Time.{time_of, time_from, moment_of, earlier, same_t
 ghost use Rattle.time.specs.Clock.{edges_before, zero_in, new_clock, after_of, edges_before_of, move_of};
 ghost use Rattle.words.specs.Words.{value_of};
 
+use refusals::Refusal;
 use words::{Wide, divide, product, product_by, scaled_quotient, sum, upper_of_less};
 
-// Whole seconds, and a fraction of a second in units of 2^-64 s.
-#[derive(Clone, Copy)]
+// Whole seconds, and a fraction of a second in units of 2^-64 s. The order is that of the units.
+#[derive(Clone, Copy, Debug, PartialEq, Eq, PartialOrd, Ord)]
 pub struct Time {
     pub seconds: u64,
     pub fraction: u64,
 }
 
-// A time, or the number of its refusal.
-#[derive(Clone, Copy)]
-pub enum Moment {
-    At(Time),
-    Refused(u8),
-}
-
-// A count of edges, or the number of its refusal.
-#[derive(Clone, Copy)]
-pub enum Count {
-    Of(u64),
-    Refused(u8),
-}
-
 // A clock of numerator / denominator Hz. Its start is the edge of the ordinal; the fraction, in parts of 1 / numerator of a unit of
 // time, is what that edge's time left over when it was rounded down.
-#[derive(Clone, Copy)]
+#[derive(Clone, Copy, Debug, PartialEq, Eq)]
 pub struct Clock {
     pub start: Time,
     pub numerator: u64,
@@ -40,42 +27,34 @@ pub struct Clock {
     pub fraction: u64,
 }
 
-// A clock, or the number of its refusal.
-#[derive(Clone, Copy)]
-pub enum NewClock {
-    Made(Clock),
-    Refused(u8),
-}
-
 impl Time {
-    // Whether the time is earlier than another.
+    // Whether the time is earlier than another: `<`, kept as a method since its contract says the derived order in units.
+    #[tactic(auto, unfolding(crate::specs::Time::earlier))]
     pub fn before(self, other: Time) -> bool
         ensures { result ≡ earlier self other }
     {
-        if self.seconds == other.seconds {
-            return self.fraction < other.fraction;
-        }
-        self.seconds < other.seconds
+        self < other
     }
 
-    // Whether the two times are one.
+    // Whether the two times are one: `==`, kept as a method since its contract says the derived equality in units.
+    #[tactic(auto, unfolding(crate::specs::Time::same_time))]
     pub fn same(self, other: Time) -> bool
         ensures { result ≡ same_time self other }
     {
-        (self.seconds == other.seconds) & (self.fraction == other.fraction)
+        self == other
     }
 
-    // The time that much later, or refusal 7 past the last time.
-    pub fn checked_add(self, by: Time) -> Moment
+    // The time that much later, or `Overflow` past the last time.
+    pub fn checked_add(self, by: Time) -> Result<Time, Refusal>
         ensures { result ≡ sum_of self by }
     {
         let low = sum(self.fraction, by.fraction);
         let high = sum(self.seconds, by.seconds);
         let top = sum(high.low, low.high);
         if high.high + top.high != 0 {
-            return Moment::Refused(7);
+            return Err(Refusal::Overflow);
         }
-        Moment::At(Time {
+        Ok(Time {
             seconds: top.low,
             fraction: low.low,
         })
@@ -99,15 +78,15 @@ impl Time {
         }
     }
 
-    // The time since an earlier one, or refusal 8 where that is the later.
-    pub fn duration_since(self, before: Time) -> Moment
+    // The time since an earlier one, or `Reversed` where that is the later.
+    #[tactic(auto, unfolding(crate::specs::Time::since_of))]
+    pub fn duration_since(self, before: Time) -> Result<Time, Refusal>
         ensures { result ≡ since_of self before }
     {
-        let reversed = self.before(before);
-        if reversed {
-            return Moment::Refused(8);
+        if self < before {
+            return Err(Refusal::Reversed);
         }
-        Moment::At(self.since(before))
+        Ok(self.since(before))
     }
 
     // One unit later; the last time stays.
@@ -159,15 +138,11 @@ impl Time {
     pub fn midway(self, later: Time) -> Time
         ensures { result ≡ midway self later }
     {
-        let reversed = later.before(self);
-        if reversed {
+        if later < self {
             return self;
         }
         let gap = later.since(self);
-        let Moment::At(t) = self.checked_add(gap.half()) else {
-            return self;
-        };
-        t
+        self.checked_add(gap.half()).unwrap_or(self)
     }
 }
 
@@ -195,23 +170,22 @@ fn capped_sum(a: u64, b: u64) -> u64
     total.low
 }
 
-// The time of so many periods of 1 / numerator s, in words, and of part / numerator of a unit after a start, or 7: the whole seconds,
-// and what they leave of a second.
-fn edge_of(seconds: u64, fraction: u64, numerator: u64, high: u64, low: u64, part: u64) -> Moment
+// The time of so many periods of 1 / numerator s and of part / numerator of a unit after a start, or `Overflow`: the whole seconds, and what
+// they leave of a second.
+fn edge_of(start: Time, numerator: u64, periods: Wide, part: u64) -> Result<Time, Refusal>
     requires { 0 < numerator }
-    ensures { result ≡ moment_of (seconds * 2 ^ 64 + fraction + ((high * 2 ^ 64 + low) * 2 ^ 64 + part) / numerator) }
+    ensures { result ≡ moment_of (time_of start + (value_of periods * 2 ^ 64 + part) / numerator) }
 {
-    let start = Time { seconds, fraction };
-    if (high == 0) & (part == 0) {
-        let since = scaled_quotient(low, numerator);
+    if (periods.high == 0) & (part == 0) {
+        let since = scaled_quotient(periods.low, numerator);
         return start.checked_add(Time {
             seconds: since.high,
             fraction: since.low,
         });
     }
-    let whole = divide(Wide { high, low }, numerator);
+    let whole = divide(periods, numerator);
     if whole.quotient.high != 0 {
-        return Moment::Refused(7);
+        return Err(Refusal::Overflow);
     }
     let left = Wide {
         high: whole.remainder,
@@ -238,8 +212,9 @@ fn left_over(numerator: u64, periods: Wide, part: u64) -> u64
 }
 
 impl Clock {
-    // A clock, or refusal 1 where the frequency or its denominator is zero.
-    pub fn new(start: Time, numerator: u64, denominator: u64) -> NewClock
+    // A clock, or `ZeroFrequency` where the frequency or its denominator is zero.
+    #[tactic(auto, unfolding(crate::specs::Clock::new_clock))]
+    pub fn new(start: Time, numerator: u64, denominator: u64) -> Result<Clock, Refusal>
         ensures { result ≡ new_clock start numerator denominator }
     {
         let clock = Clock {
@@ -249,11 +224,10 @@ impl Clock {
             ordinal: 0,
             fraction: 0,
         };
-        let zero = clock.has_zero();
-        if zero {
-            return NewClock::Refused(1);
+        if clock.has_zero() {
+            return Err(Refusal::ZeroFrequency);
         }
-        NewClock::Made(clock)
+        Ok(clock)
     }
 
     // Whether the numerator or the denominator is zero, or the fraction not below the numerator, as none is where that is zero.
@@ -263,28 +237,18 @@ impl Clock {
         (self.denominator == 0) | (self.numerator <= self.fraction)
     }
 
-    // The time of the edge of that number; refusal 1 as `has_zero` has it, 8 below the ordinal, 7 past the last time.
-    pub fn after(self, edges: u64) -> Moment
+    // The time of the edge of that number; `ZeroFrequency` as `has_zero` has it, `Reversed` below the ordinal, `Overflow` past the last time.
+    pub fn after(self, edges: u64) -> Result<Time, Refusal>
         ensures { result ≡ after_of self edges }
     {
-        let zero = self.has_zero();
-        if zero {
-            return Moment::Refused(1);
+        if self.has_zero() {
+            return Err(Refusal::ZeroFrequency);
         }
-        let below = edges < self.ordinal;
-        if below {
-            return Moment::Refused(8);
+        if edges < self.ordinal {
+            return Err(Refusal::Reversed);
         }
-        let start = self.start;
         let periods = periods_of(edges - self.ordinal, self.denominator);
-        edge_of(
-            start.seconds,
-            start.fraction,
-            self.numerator,
-            periods.high,
-            periods.low,
-            self.fraction,
-        )
+        edge_of(self.start, self.numerator, periods, self.fraction)
     }
 
     // The number of the last edge earlier than the limit, and the ordinal where none is, at most 2^64 - 1.
@@ -293,8 +257,7 @@ impl Clock {
         ensures { result ≡ edges_before self (time_of limit) }
     {
         let start = self.start;
-        let late = start.before(limit);
-        if late {
+        if start < limit {
             let since = limit.since(start);
             let more = since.periods(self.numerator, self.denominator, self.fraction);
             return capped_sum(self.ordinal, more);
@@ -302,50 +265,37 @@ impl Clock {
         self.ordinal
     }
 
-    // The ordinal and how many edges after the start are earlier than the limit, at most 2^64 - 1; refusal 1 as `has_zero` has it.
-    pub fn edges_before(self, limit: Time) -> Count
+    // The ordinal and how many edges after the start are earlier than the limit, at most 2^64 - 1; `ZeroFrequency` as `has_zero` has it.
+    #[tactic(auto, using(crate::proofs::Laws::no_zero), unfolding(crate::specs::Clock::edges_before_of))]
+    pub fn edges_before(self, limit: Time) -> Result<u64, Refusal>
         ensures { result ≡ edges_before_of self limit }
     {
-        let zero = self.has_zero();
-        if zero {
-            return Count::Refused(1);
+        if self.has_zero() {
+            return Err(Refusal::ZeroFrequency);
         }
-        Count::Of(self.count(limit))
+        Ok(self.count(limit))
     }
 
-    // The clock with its start moved up by so many edges; refusal 1 as `has_zero` has it, 7 where the new start or ordinal leaves its
-    // width.
-    pub fn advance(self, edges: u64) -> NewClock
+    // The clock with its start moved up by so many edges; `ZeroFrequency` as `has_zero` has it, `Overflow` where the new start or ordinal
+    // leaves its width.
+    pub fn advance(self, edges: u64) -> Result<Clock, Refusal>
         ensures { result ≡ move_of edges self }
     {
-        let zero = self.has_zero();
-        if zero {
-            return NewClock::Refused(1);
+        if self.has_zero() {
+            return Err(Refusal::ZeroFrequency);
         }
         let ordinal = sum(self.ordinal, edges);
         if ordinal.high != 0 {
-            return NewClock::Refused(7);
+            return Err(Refusal::Overflow);
         }
         let periods = periods_of(edges, self.denominator);
         let fraction = left_over(self.numerator, periods, self.fraction);
-        let start = self.start;
-        let moved = edge_of(
-            start.seconds,
-            start.fraction,
-            self.numerator,
-            periods.high,
-            periods.low,
-            self.fraction,
-        );
-        match moved {
-            Moment::At(start) => NewClock::Made(Clock {
-                start,
-                numerator: self.numerator,
-                denominator: self.denominator,
-                ordinal: ordinal.low,
-                fraction,
-            }),
-            Moment::Refused(_) => NewClock::Refused(7),
-        }
+        let start = edge_of(self.start, self.numerator, periods, self.fraction)?;
+        Ok(Clock {
+            start,
+            ordinal: ordinal.low,
+            fraction,
+            ..self
+        })
     }
 }

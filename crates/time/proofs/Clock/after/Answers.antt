@@ -7,17 +7,17 @@ use Rattle.time.specs.Clock.{edge_of, after_of}
 use Rattle.time.proofs.Laws.{no_zero, after_is}
 use Rattle.time.proofs.Clock.after.Goals as goal
 
-pub returns-then-zero : goal.returns-then-zero
+pub returns-then-has_zero : goal.returns-then-has_zero
 unfolding after_of
-returns-then-zero c = simp (← c.has_zero-zero.ensures, c.if-zero.true)
+returns-then-has_zero c = simp (← c.has_zero.ensures, c.if-has_zero.true)
 
-pub returns-then-below : goal.returns-then-below
+pub returns-then-edges-self : goal.returns-then-edges-self
 unfolding after_of
-returns-then-below c = simp (← c.has_zero-zero.ensures, c.if-zero.false, lt-ltb c.args.edges c.args.self.ordinal c.if-below.true)
+returns-then-edges-self c = simp (← c.has_zero.ensures, c.if-has_zero.false, lt-ltb c.args.edges c.args.self.ordinal c.if-edges-self.true)
 
 pub edge_of-requires : goal.edge_of-requires
 edge_of-requires c =
-    (no_zero c.args.self (sym c.has_zero-zero.ensures ∙ c.if-zero.false)).0
+    (no_zero c.args.self (sym c.has_zero.ensures ∙ c.if-has_zero.false)).0
 
 pub returns : goal.returns
 unfolding edge_of
@@ -25,4 +25,4 @@ returns c =
     let a = c.args in
     c.edge_of.ensures
     ∙ ap (λ (n : ℕ). moment_of (time_of a.self.start + (n * 2 ^ 64 + a.self.fraction) / a.self.numerator)) c.periods_of-periods.ensures
-    ∙ sym (after_is a.self a.edges (sym c.has_zero-zero.ensures ∙ c.if-zero.false) c.if-below.false)
+    ∙ sym (after_is a.self a.edges (sym c.has_zero.ensures ∙ c.if-has_zero.false) c.if-edges-self.false)

@@ -2,7 +2,7 @@
 -- Assumes nothing.
 use Rattle.std.proofs.Common.{ℕ, ◌+◌, ◌^◌, ◌<◌, ◌≤◌, sym, ap, ◌∙◌, arith, rules}
 use Rattle.time.specs.Time.{time_of, sum_of}
-use Rattle.time.specs.declared.Moment.TheVariants.{At}
+use Rattle.std.specs.Prelude.{Ok}
 use Rattle.time.proofs.Laws.{time_from_lem, in_time, moment_at, moment_past}
 use Rattle.time.proofs.Sums.{carry_le, sum_past, sum_words}
 use Rattle.time.proofs.Time.checked_add.Goals as goal
@@ -37,4 +37,4 @@ returns c =
     let high = c.sum-top.type_inv.1.1.1.0.1 in
     let low = c.sum-low.type_inv.1.1.1.0.1 in
     let e = sum_words a.self.seconds a.self.fraction a.by.seconds a.by.fraction c.sum-low.result.high c.sum-low.result.low c.sum-high.result.high c.sum-high.result.low c.sum-top.result.high c.sum-top.result.low c.sum-low.ensures c.sum-high.ensures c.sum-top.ensures c.if-high-top-ne0.false in
-    ap At (time_from_lem n _ _ e low) ∙ sym (moment_at n (in_time n _ _ e high low))
+    ap Ok (time_from_lem n _ _ e low) ∙ sym (moment_at n (in_time n _ _ e high low))

@@ -5,6 +5,7 @@ use Rattle.std.proofs.Common.{◌≡◌, ℕ, ◌-◌, ◌*◌, ◌/◌, ◌^◌
 use Rattle.time.specs.Time.{time_of}
 use Rattle.words.specs.Words.{value_of}
 use Rattle.words.specs.declared.Divided.{Divided}
+use Rattle.words.specs.declared.Wide.{Wide}
 use Rattle.words.specs.Laws.{quotient_of}
 use Rattle.time.proofs.Edges.{capped_full, capped_part}
 use Rattle.time.proofs.Time.periods.Goals as goal
@@ -29,4 +30,4 @@ pub returns : goal.returns
 returns c =
     let low : c.upper_of_less-scaled.result.low < 2 ^ 64 = omega arith in
     capped_part (scaled c.before.before.before.before.before.before) c.args.denominator c.upper_of_less-scaled.result.high c.upper_of_less-scaled.result.low (words c.before.before.before.before) c.requires c.divide.result.quotient.high c.divide.result.quotient.low c.if-denominator-scaled.false low
-    (ap (λ (r : Divided). value_of r.quotient) c.divide.ensures ∙ quotient_of (value_of c.upper_of_less-scaled.result) c.args.denominator ∙ ap (λ (n : ℕ). n / c.args.denominator) (words c.before.before.before.before))
+    (ap (λ (r : Divided Wide). value_of r.quotient) c.divide.ensures ∙ quotient_of (value_of c.upper_of_less-scaled.result) c.args.denominator ∙ ap (λ (n : ℕ). n / c.args.denominator) (words c.before.before.before.before))
