@@ -1,14 +1,13 @@
 -- Definitions: deadlines that don't lie before a time, for laws on when waits end. No definition of a call cites them.
-use Rattle.std.specs.Prelude.{ℕ, ◌≤◌, ◌≡◌}
+use Rattle.std.specs.Prelude.{◌≤◌, ◌≡◌, Err, Ok, Option, Result, Some}
 use Rattle.time.specs.declared.Time.{Time}
 use Rattle.time.specs.Time.{time_of}
-use Rattle.clocks.specs.declared.wait.Deadline.{Deadline}
-use Rattle.clocks.specs.declared.wait.Deadline.TheVariants as deadline
+use Rattle.refusals.specs.declared.Refusal.{Refusal}
 
 -- its time, if it has one, isn't before now
-abbrev pub Ahead : Time → Deadline → Type 0
-Ahead now d = (t : Time) → d ≡ deadline.At t → time_of now ≤ time_of t
+abbrev pub Ahead : Time → Result (Option Time) Refusal → Type 0
+Ahead now d = (t : Time) → d ≡ Ok (Some t) → time_of now ≤ time_of t
 
 -- it isn't refused
-abbrev pub NotRefused : Deadline → Type 0
-NotRefused d = (n : ℕ) → d ≡ deadline.Refused n → ⊥
+abbrev pub NotRefused : Result (Option Time) Refusal → Type 0
+NotRefused d = (r : Refusal) → d ≡ Err r → ⊥

@@ -1,7 +1,0 @@
-use Rattle.waits.proofs.ends.turn_wait.Goals as goal
-
-pub returns-then-gate : goal.returns-then-gate
-returns-then-gate c = simp (c.new_wait.ensures, ← c.resume.ensures, c.if-gate.true)
-
-pub returns-else-gate : goal.returns-else-gate
-returns-else-gate c = simp (c.new_wait-else-gate.ensures, ← c.pause.ensures, c.if-gate.false)

@@ -1,7 +1,0 @@
-use Rattle.waits.proofs.half.further.Goals as goal
-
-pub returns-in-Of : goal.returns-in-Of
-returns-in-Of c = simp (c.half_sum.ensures, c.in-Of.is)
-
-pub returns-in-Refused : goal.returns-in-Refused
-returns-in-Refused c = simp c.in-Refused.is
