@@ -1,76 +1,74 @@
 -- Laws: a step that follows another one. Assumes nothing.
 use Rattle.domain.specs.declared.Domain.{Domain}
-use Rattle.iic.specs.Answers.{and_then, fine, go_on}
+use Rattle.iic.specs.Answers.{Stepped, and_then, fine, go_on}
 use Rattle.iic.specs.Inside.{went_on}
 use Rattle.iic.specs.Kick.{kick_of}
 use Rattle.iic.specs.Settled.{settled}
 use Rattle.iic.specs.SettledLaws.{settled_kick}
 use Rattle.iic.specs.Waiting.{schedule_filter_of, start_filter_of, wants_filter}
-use Rattle.iic.specs.declared.Ended.TheVariants as ended
-use Rattle.iic.specs.declared.Ended.{Ended}
 use Rattle.iic.specs.declared.Iic.{Iic}
-use Rattle.iic.specs.declared.Stepped.{Stepped}
 use Rattle.time.specs.Truths.{unnot}
 use Rattle.time.specs.declared.Time.{Time}
-use Rattle.std.specs.Prelude.{Bool, ◌&&◌, cond, false, not, true, ◌≡◌, refl}
+use Rattle.std.specs.Prelude.{Bool, ◌&&◌, cond, false, not, true, ◌≡◌, refl, Err, Ok, Result, ⊤}
 use Rattle.std.proofs.lemmas.Bool.{false≢true}
 use Rattle.std.proofs.Common.{true≢false, ◌∙◌}
 use Rattle.std.proofs.Math.Path.{sym}
+use Rattle.refusals.specs.declared.Refusal.{Refusal}
 
-pub finished : (e : Ended) → went_on e ≡ true → e ≡ ended.Finished
-finished ended.Finished h = refl
-finished (ended.Refused n) h = absurd (false≢true h)
+pub finished : (e : Result ⊤ Refusal) → went_on e ≡ true → e ≡ (Ok tt)
+finished (Ok u) h = refl
+finished (Err n) h = absurd (false≢true h)
 
 module _ (f : Iic → Stepped) where
-  went_in : (e : Ended) (o : Stepped) → went_on e ≡ true → go_on e o f ≡ f o.state
-  went_in ended.Finished o h = refl
-  went_in (ended.Refused n) o h = absurd (false≢true h)
+  went_in : (e : Result ⊤ Refusal) (o : Stepped) → went_on e ≡ true → go_on e o f ≡ f o.state
+  went_in (Ok u) o h = refl
+  went_in (Err n) o h = absurd (false≢true h)
 
-  stopped_in : (e : Ended) (o : Stepped) → went_on e ≡ false → go_on e o f ≡ o
-  stopped_in ended.Finished o h = absurd (true≢false h)
-  stopped_in (ended.Refused n) o h = refl
+  stopped_in : (e : Result ⊤ Refusal) (o : Stepped) → went_on e ≡ false → go_on e o f ≡ o
+  stopped_in (Ok u) o h = absurd (true≢false h)
+  stopped_in (Err n) o h = refl
 
-  rests_in_lem : (e : Ended) (s : Iic) → f s ≡ fine s → go_on e (record { ended = e; state = s }) f ≡ record { ended = e; state = s }
-  rests_in_lem ended.Finished s h = h
-  rests_in_lem (ended.Refused n) s h = refl
+  rests_in_lem : (e : Result ⊤ Refusal) (s : Iic) → f s ≡ fine s → go_on e (record { answer = e; state = s }) f ≡ record { answer = e; state = s }
+  rests_in_lem (Ok u) s h = h
+  rests_in_lem (Err n) s h = refl
 
-  both_in : (e : Ended) (o : Stepped) (b : Bool) → (went_on e && b) ≡ true → (go_on e o f ≡ f o.state) × (b ≡ true)
-  both_in ended.Finished o b h = (refl, h)
-  both_in (ended.Refused n) o b h = absurd (false≢true h)
+  both_in : (e : Result ⊤ Refusal) (o : Stepped) (b : Bool) → (went_on e && b) ≡ true → (go_on e o f ≡ f o.state) × (b ≡ true)
+  both_in (Ok u) o b h = (refl, h)
+  both_in (Err n) o b h = absurd (false≢true h)
 
-  kept_in : (e : Ended) (s : Iic) (b : Bool) → (went_on e && b) ≡ false → (b ≡ false → f s ≡ fine s) →
-      go_on e (record { ended = e; state = s }) f ≡ record { ended = e; state = s }
-  kept_in ended.Finished s b h k = k h
-  kept_in (ended.Refused n) s b h k = refl
+  kept_in : (e : Result ⊤ Refusal) (s : Iic) (b : Bool) → (went_on e && b) ≡ false → (b ≡ false → f s ≡ fine s) →
+      go_on e (record { answer = e; state = s }) f ≡ record { answer = e; state = s }
+  kept_in (Ok u) s b h k = k h
+  kept_in (Err n) s b h k = refl
 
-  alike_in : (g : Iic → Stepped) (e : Ended) (o : Stepped) → f o.state ≡ g o.state → go_on e o f ≡ go_on e o g
-  alike_in g ended.Finished o h = h
-  alike_in g (ended.Refused n) o h = refl
+  alike_in : (g : Iic → Stepped) (e : Result ⊤ Refusal) (o : Stepped) → f o.state ≡ g o.state → go_on e o f ≡ go_on e o g
+  alike_in g (Ok u) o h = h
+  alike_in g (Err n) o h = refl
 
 module _ (o : Stepped) (f : Iic → Stepped) where
   -- the step before went through
-  pub went : went_on o.ended ≡ true → and_then o f ≡ f o.state
-  went h = went_in f o.ended o h
+  pub went : went_on o.answer ≡ true → and_then o f ≡ f o.state
+  went h = went_in f o.answer o h
 
   -- it was refused
-  pub stopped : went_on o.ended ≡ false → and_then o f ≡ o
-  stopped h = stopped_in f o.ended o h
+  pub stopped : went_on o.answer ≡ false → and_then o f ≡ o
+  stopped h = stopped_in f o.answer o h
 
   -- the step changes nothing
   pub rests : f o.state ≡ fine o.state → and_then o f ≡ o
-  rests h = rests_in_lem f o.ended o.state h
+  rests h = rests_in_lem f o.answer o.state h
 
   -- the step before went through, and b holds
-  pub both : (b : Bool) → (went_on o.ended && b) ≡ true → (and_then o f ≡ f o.state) × (b ≡ true)
-  both b h = both_in f o.ended o b h
+  pub both : (b : Bool) → (went_on o.answer && b) ≡ true → (and_then o f ≡ f o.state) × (b ≡ true)
+  both b h = both_in f o.answer o b h
 
   -- it was refused, or the step changes nothing where b doesn't hold
-  pub kept : (b : Bool) → (went_on o.ended && b) ≡ false → (b ≡ false → f o.state ≡ fine o.state) → and_then o f ≡ o
-  kept b h k = kept_in f o.ended o.state b h k
+  pub kept : (b : Bool) → (went_on o.answer && b) ≡ false → (b ≡ false → f o.state ≡ fine o.state) → and_then o f ≡ o
+  kept b h k = kept_in f o.answer o.state b h k
 
   -- two steps that are one from here
   pub alike : (g : Iic → Stepped) → f o.state ≡ g o.state → and_then o f ≡ and_then o g
-  alike g h = alike_in f g o.ended o h
+  alike g h = alike_in f g o.answer o h
 
 pub either : (b : Bool) (o : Stepped) → cond b o o ≡ o
 either true o = refl
@@ -88,20 +86,20 @@ failed_by false h x y = refl
 -- ## The filter's wait and the kick, tested before they are called
 
 module _ (now : Time) (system : Domain) (o : Stepped) where
-  pub scheduled : (went_on o.ended && wants_filter o.state) ≡ true → start_filter_of now system o.state ≡ and_then o (schedule_filter_of now system)
+  pub scheduled : (went_on o.answer && wants_filter o.state) ≡ true → start_filter_of now system o.state ≡ and_then o (schedule_filter_of now system)
   unfolding schedule_filter_of
   scheduled h = let b = both o (schedule_filter_of now system) (wants_filter o.state) h in sym (b.0 ∙ rw b.1 refl)
 
-  pub unscheduled : (went_on o.ended && wants_filter o.state) ≡ false → o ≡ and_then o (schedule_filter_of now system)
+  pub unscheduled : (went_on o.answer && wants_filter o.state) ≡ false → o ≡ and_then o (schedule_filter_of now system)
   unfolding schedule_filter_of
   unscheduled h = sym (kept o (schedule_filter_of now system) (wants_filter o.state) h (λ e. rw e refl))
 
-  pub kicked : (went_on o.ended && not (settled o.state)) ≡ true → kick_of now system o.state ≡ and_then o (kick_of now system)
+  pub kicked : (went_on o.answer && not (settled o.state)) ≡ true → kick_of now system o.state ≡ and_then o (kick_of now system)
   kicked h = sym (both o (kick_of now system) (not (settled o.state)) h).0
 
-  pub unkicked : (went_on o.ended && not (settled o.state)) ≡ false → o ≡ and_then o (kick_of now system)
+  pub unkicked : (went_on o.answer && not (settled o.state)) ≡ false → o ≡ and_then o (kick_of now system)
   unkicked h =
       sym (kept o (kick_of now system) (not (settled o.state)) h (λ e. settled_kick now system o.state (unnot (settled o.state) e)))
 
-  pub due_unsettled : (went_on o.ended && not (settled o.state)) ≡ true → settled o.state ≡ false
+  pub due_unsettled : (went_on o.answer && not (settled o.state)) ≡ true → settled o.state ≡ false
   due_unsettled h = unnot (settled o.state) (both o (kick_of now system) (not (settled o.state)) h).1

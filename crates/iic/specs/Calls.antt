@@ -1,25 +1,19 @@
 -- Definitions: the eleven calls (iic.rs, each the function of its name; numbers in brackets are its lines). Each decides the answer and the whole
 -- next state, refused or not (document 01, demand 2). Of the clock set that a call gets, refusal 1 looks at each clock, and the waits of the filter
 -- and of the setup, which in a state that is handed in may be on any tap, at theirs; all else takes the system domain alone.
-use Rattle.std.specs.Prelude.{ℕ, Bool, ◌&&◌, cond, false}
+use Rattle.std.specs.Prelude.{ℕ, Bool, ◌&&◌, cond, false, Err, None, Ok, Option, Result, Some, ⊤}
 use Rattle.bus.specs.Bus.{levels, same_levels}
 use Rattle.bus.specs.declared.Levels.{Levels}
 use Rattle.clocks.specs.Clocks.{has_zero}
 use Rattle.clocks.specs.declared.Clocks.{Clocks}
 use Rattle.domain.specs.declared.Domain.{Domain}
-use Rattle.clocks.specs.declared.wait.Deadline.TheVariants as deadline
-use Rattle.clocks.specs.declared.wait.Deadline.{Deadline}
-use Rattle.iic.specs.Answers.{and_then, answered, fine, guarded, noticed}
+use Rattle.iic.specs.Answers.{Stepped, and_then, answered, fine, guarded}
 use Rattle.iic.specs.Clocking.{fire_clock_of, fire_filter_of, fire_monitor_of, fire_setup_of}
 use Rattle.iic.specs.Kick.{kick_of}
 use Rattle.iic.specs.Waiting.{schedule_filter_of, turn_clock_of, turn_filter_of, turn_monitor_of, turn_setup_of}
 use Rattle.iic.specs.declared.Ends.{Ends}
 use Rattle.iic.specs.declared.Iic.{Iic}
-use Rattle.iic.specs.declared.Noticed.{Noticed}
-use Rattle.iic.specs.declared.Pins.TheVariants.{Driven, NoPins}
-use Rattle.iic.specs.declared.Pins.{Pins}
-use Rattle.iic.specs.declared.ReadOut.{ReadOut}
-use Rattle.iic.specs.declared.Stepped.{Stepped}
+use Rattle.iic.specs.declared.Answered.{Answered}
 use Rattle.iic.specs.Reading.{peek_at, read_at}
 use Rattle.registers.specs.Registers.{register_at}
 use Rattle.iic.specs.Writing.{write_at}
@@ -32,11 +26,13 @@ use Rattle.time.specs.declared.Time.{Time}
 use Rattle.waits.specs.Ends.{half_end, sooner, tap_refusal, wait_end}
 use Rattle.rates.specs.Rates.{rates_hold}
 use Rattle.std.specs.Bool.{beq}
+use Rattle.refusals.specs.declared.Refusal.{Refusal}
+use Rattle.refusals.specs.declared.Refusal.TheVariants.{ZeroFrequency}
 
 -- ## Refusals that stand before a call (document 01, their order): 1, where a clock that was handed in holds a zero, then 14 for the state's rate set
--- (document 02, (f)), then 9, then 10, with the state unchanged; 0 for none
+-- (document 02, (f)), then 9, then 10, with the state unchanged
 
-abbrev pub guard_by : Bool → Iic → ℕ
+abbrev pub guard_by : Bool → Iic → Result ⊤ Refusal
 guard_by zero s = before_call zero (rates_hold s.rates) (ranges_hold s) (progress_holds s)
 
 -- ## Registers: `peek`, `read`, `write` (197, 215, 255)
@@ -44,10 +40,10 @@ guard_by zero s = before_call zero (rates_hold s.rates) (ranges_hold s) (progres
 unfoldable pub peek_of : Iic → ℕ → ℕ
 peek_of s a = peek_at (register_at a) s
 
-abbrev pub read_by : Bool → Iic → ℕ → Time → Domain → ReadOut
+abbrev pub read_by : Bool → Iic → ℕ → Time → Domain → Answered ℕ
 read_by zero s a now system = answered (guarded (guard_by zero s) s (read_at (register_at a) now system s)) (peek_of s a)
 
-unfoldable pub read_of : Iic → ℕ → Time → Clocks → ReadOut
+unfoldable pub read_of : Iic → ℕ → Time → Clocks → Answered ℕ
 read_of s a now k = read_by (has_zero k) s a now k.system
 
 abbrev pub write_by : Bool → Iic → ℕ → ℕ → Time → Domain → Stepped
@@ -62,15 +58,15 @@ write_of s a value now k = write_by (has_zero k) s a value now k.system
 unfoldable pub take_pins_of : Levels → Time → Domain → Iic → Stepped
 take_pins_of given now system s = cond (same_levels s.lines.raw given) (fine s) (schedule_filter_of now system (set_raw given s))
 
-abbrev pub input_pins_by : Bool → Iic → Bool → Bool → Time → Domain → Noticed
+abbrev pub input_pins_by : Bool → Iic → Bool → Bool → Time → Domain → Answered Bool
 input_pins_by zero s scl sda now system =
-    noticed (guarded (guard_by zero s) s (take_pins_of (levels scl sda) now system s)) (observes s (levels scl sda))
+    answered (guarded (guard_by zero s) s (take_pins_of (levels scl sda) now system s)) (observes s (levels scl sda))
 
-unfoldable pub input_pins_of : Iic → Bool → Bool → Time → Clocks → Noticed
+unfoldable pub input_pins_of : Iic → Bool → Bool → Time → Clocks → Answered Bool
 input_pins_of s scl sda now k = input_pins_by (has_zero k) s scl sda now k.system
 
-abbrev pub pins_of : Iic → Pins
-pins_of s = cond (enabled s) (Driven s.lines.drive) NoPins
+abbrev pub pins_of : Iic → Option Levels
+pins_of s = cond (enabled s) (Some s.lines.drive) None
 
 -- ## The gate: `set_gate` (380)
 
@@ -104,15 +100,15 @@ abbrev pub ends_of : Iic → Clocks → Ends
 ends_of s k = record { filter = wait_end s.filter_wait k; setup = wait_end s.setup_wait k }
 
 -- the earliest of filter, clock, monitor and setup, refused at the first that is refused
-unfoldable pub earliest_of : Ends → Iic → Domain → Deadline
+unfoldable pub earliest_of : Ends → Iic → Domain → Result (Option Time) Refusal
 earliest_of ends s system =
     sooner ends.filter (sooner (half_end s.clock_wait system) (sooner (half_end s.monitor_wait system) ends.setup))
 
 -- none while the gate is off or the peripheral disabled (446)
-abbrev pub deadline_by : Bool → Ends → Iic → Domain → Deadline
-deadline_by zero ends s system = cond zero (deadline.Refused 1) (cond (awake s) (earliest_of ends s system) deadline.Never)
+abbrev pub deadline_by : Bool → Ends → Iic → Domain → Result (Option Time) Refusal
+deadline_by zero ends s system = cond zero (Err ZeroFrequency) (cond (awake s) (earliest_of ends s system) (Ok None))
 
-unfoldable pub deadline_of : Iic → Clocks → Deadline
+unfoldable pub deadline_of : Iic → Clocks → Result (Option Time) Refusal
 deadline_of s k = deadline_by (has_zero k) (ends_of s k) s k.system
 
 -- document 01: filter, setup, monitor, clock, each looked at after the one before has acted
@@ -131,12 +127,12 @@ advance_of s now k = guarded (guard_by (has_zero k) s) s (visit_of now k s)
 abbrev pub interrupt_with_enable_of : Iic → ℕ → Bool
 interrupt_with_enable_of s retained = interrupt_with s retained
 
--- ## `validate`: 14, 9, 10, 11, 12, or 0 (894; document 02, (f))
+-- ## `validate`: 14, 9, 10, 11, 12, or none (894; document 02, (f))
 
 -- 11, 12
-unfoldable pub waits_refusal : Iic → ℕ
+unfoldable pub waits_refusal : Iic → Result ⊤ Refusal
 waits_refusal s = first_of (tap_refusal s.filter_wait) (first_of (tap_refusal s.setup_wait) (halves_refusal s))
 
-unfoldable pub validate_of : Iic → Time → ℕ
+unfoldable pub validate_of : Iic → Time → Result ⊤ Refusal
 validate_of s now =
     of_state (rates_hold s.rates) (ranges_hold s && fell_by s.eighth_fall now) (progress_holds s) (waits_refusal s)

@@ -1,13 +1,13 @@
 -- Definitions: what a state must meet, and what it asks of its host (document 01, "Refused because of the state"; `validate`,
 -- `interrupt_with_enable`; numbers in brackets are lines of iic.rs).
-use Rattle.std.specs.Prelude.{◌+◌, ℕ, eqb, ltb, Bool, ◌&&◌, ◌||◌, cond, not, true}
+use Rattle.std.specs.Prelude.{◌+◌, ℕ, eqb, ltb, Bool, ◌&&◌, ◌||◌, cond, not, true, None, Option, Some, Result, Ok, Err, ⊤}
+use Rattle.refusals.specs.declared.Refusal.{Refusal}
+use Rattle.refusals.specs.declared.Refusal.TheVariants.{HalfCount}
 use Rattle.bus.specs.Bits.{flag, has, without}
 use Rattle.frames.specs.Parts.{progress_in}
 use Rattle.registers.specs.Bits.{AL, MLS, NACKF, NAKIE, RDRF, STOP, TDRE, TEND, WAIT}
 use Rattle.iic.specs.State.{synchronous}
 use Rattle.iic.specs.declared.Iic.{Iic}
-use Rattle.iic.specs.declared.EighthFall.{EighthFall}
-use Rattle.iic.specs.declared.EighthFall.TheVariants.{FellAt, NoFall}
 use Rattle.time.specs.Time.{earlier}
 use Rattle.time.specs.declared.Time.{Time}
 use Rattle.waits.specs.Ends.{short_half}
@@ -26,13 +26,13 @@ progress_holds s = progress_in s.frame
 -- ## What `validate` asks beside that
 
 -- document 01, refused 9 where this doesn't hold: an eighth fall isn't later than now (899)
-abbrev pub fell_by : EighthFall → Time → Bool
-fell_by NoFall now = true
-fell_by (FellAt t) now = not (earlier now t)
+abbrev pub fell_by : Option Time → Time → Bool
+fell_by None now = true
+fell_by (Some t) now = not (earlier now t)
 
 -- document 01, 12: a half count within 1023 of the top (914)
-abbrev pub halves_refusal : Iic → ℕ
-halves_refusal s = cond (short_half s.clock_wait && short_half s.monitor_wait) 0 12
+abbrev pub halves_refusal : Iic → Result ⊤ Refusal
+halves_refusal s = cond (short_half s.clock_wait && short_half s.monitor_wait) (Ok tt) (Err HalfCount)
 
 -- ## Interrupts
 

@@ -2,18 +2,15 @@
 use Rattle.bus.specs.Bits.{flag}
 use Rattle.bus.specs.Bus.{is_start, is_stop, levels}
 use Rattle.bus.specs.declared.Levels.{Levels}
-use Rattle.frames.specs.declared.Framing.TheVariants.{NoFrame}
 use Rattle.registers.specs.Bits.{STOP}
 use Rattle.iic.specs.Setters.{set_busy, set_command, set_completed, set_condition, set_drive, set_frame, set_hold, set_monitor_wait, set_receive_enabled, set_receive_stopped, set_selected, set_synchronized_hold}
 use Rattle.iic.specs.Shift.{begin_frame_of, when_lost_of}
 use Rattle.iic.specs.State.{drive_scl, drive_sda, master, raise, synchronous, unclocked}
-use Rattle.iic.specs.declared.Command.TheVariants.{NoCommand}
 use Rattle.iic.specs.declared.Condition.{Condition}
 use Rattle.iic.specs.declared.Condition.TheVariants.{NoCondition, StartRelease, StartHigh, StartHold, StopLow, StopHigh, StopRelease, StopDetect}
 use Rattle.iic.specs.declared.Iic.{Iic}
 use Rattle.iic.specs.declared.Hold.TheVariants.{NoHold}
-use Rattle.waits.specs.declared.MaybeHalf.TheVariants.{NoHalf}
-use Rattle.std.specs.Prelude.{Bool, ◌&&◌, ◌||◌, cond, false, true}
+use Rattle.std.specs.Prelude.{Bool, ◌&&◌, ◌||◌, cond, false, true, None}
 
 -- ## `filtered_edges`: a stop and a start of the bus
 
@@ -28,7 +25,7 @@ stop_noted s = raise (flag (s.flags.selected || master s && s.flags.completed) S
 -- what was under way ends (512)
 abbrev pub at_stop : Iic → Iic
 at_stop s =
-    set_busy false (set_condition NoCondition (set_frame NoFrame (set_selected false (set_receive_enabled false
+    set_busy false (set_condition NoCondition (set_frame None (set_selected false (set_receive_enabled false
     (set_receive_stopped false (set_hold NoHold (unclocked s)))))))
 
 -- a stop (511)
@@ -60,14 +57,14 @@ first_condition start = cond start StartRelease StopLow
 -- the command is taken, and SCL goes low; a clock wait stays until the next one is there (797)
 unfoldable pub begun_of : Bool → Iic → Iic
 begun_of start s =
-    set_command NoCommand (set_frame NoFrame (set_hold NoHold (set_monitor_wait NoHalf (set_synchronized_hold false
+    set_command None (set_frame None (set_hold NoHold (set_monitor_wait None (set_synchronized_hold false
     (set_drive (levels false start) (set_condition (first_condition start) s))))))
 
 -- ## `clock_step`: a condition under way
 
 -- SDA goes high: the stop that the peripheral itself will see (870)
 abbrev pub stop_released : Iic → Iic
-stop_released s = set_condition StopDetect (set_frame NoFrame (set_receive_enabled false (drive_sda true s)))
+stop_released s = set_condition StopDetect (set_frame None (set_receive_enabled false (drive_sda true s)))
 
 -- it goes a stage on as the clock's wait ends (855)
 abbrev pub clocked_at : Condition → Iic → Iic

@@ -2,13 +2,12 @@
 use Rattle.bus.specs.Bus.{same_levels}
 use Rattle.bus.specs.declared.Levels.{Levels}
 use Rattle.domain.specs.declared.Domain.{Domain}
-use Rattle.iic.specs.Answers.{fine}
+use Rattle.iic.specs.Answers.{Stepped, fine}
 use Rattle.iic.specs.Conditions.{bus_edge_of, condition_high}
 use Rattle.iic.specs.Edges.{condition_step_of, edged, falling_of, filtered_edges_of, scl_edge_of, stretch_ends_of}
 use Rattle.iic.specs.Shift.{rising_of}
 use Rattle.iic.specs.State.{synchronous}
 use Rattle.iic.specs.declared.Iic.{Iic}
-use Rattle.iic.specs.declared.Stepped.{Stepped}
 use Rattle.time.specs.Truths.{and_left, or_left, or_right, unnot}
 use Rattle.time.specs.declared.Time.{Time}
 use Rattle.std.specs.Prelude.{Bool, ◌&&◌, ◌||◌, cond, false, not, true, ◌≡◌, refl}

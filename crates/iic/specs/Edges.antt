@@ -1,19 +1,16 @@
 -- Definitions: what filtered levels bring: the falling clock, a condition under way, and `filtered_edges`. Numbers in brackets are lines of
 -- iic.rs.
-use Rattle.std.specs.Prelude.{◌*◌, Bool, ◌&&◌, ◌||◌, cond, false, not, true}
+use Rattle.std.specs.Prelude.{◌*◌, Bool, ◌&&◌, ◌||◌, cond, false, not, true, None, Option, Some}
 use Rattle.bus.specs.Bus.{same_levels}
 use Rattle.bus.specs.declared.Levels.{Levels}
 use Rattle.domain.specs.declared.Domain.{Domain}
 use Rattle.frames.specs.declared.Frame.{Frame}
-use Rattle.frames.specs.declared.Framing.TheVariants.{InFrame, NoFrame}
-use Rattle.frames.specs.declared.Framing.{Framing}
 use Rattle.frames.specs.declared.Phase.TheVariants.{Ack, Data, Done}
 use Rattle.frames.specs.declared.Phase.{Phase}
-use Rattle.iic.specs.Answers.{and_then, fine}
+use Rattle.iic.specs.Answers.{Stepped, and_then, fine}
 use Rattle.iic.specs.Kick.{kick_of}
-use Rattle.iic.specs.Waiting.{clock_from, start_clock_of, turn_clock_of}
+use Rattle.iic.specs.Waiting.{at_wait, clock_from, start_clock_of, turn_clock_of}
 use Rattle.iic.specs.declared.Iic.{Iic}
-use Rattle.iic.specs.declared.Stepped.{Stepped}
 use Rattle.iic.specs.Conditions.{bus_edge_of, condition_high, raised_of}
 use Rattle.iic.specs.Falls.{end_frame_of, fall_data_of, fall_idle_of, fall_taken_of, follow_of, inserts_wait}
 use Rattle.iic.specs.Setters.{set_synchronized_hold}
@@ -22,15 +19,13 @@ use Rattle.iic.specs.State.{commanded, conditioned}
 use Rattle.time.specs.declared.Time.{Time}
 use Rattle.waits.specs.Half.{half_longer}
 use Rattle.rates.specs.Rates.{period_of}
-use Rattle.waits.specs.declared.MaybeHalf.TheVariants.{Half, NoHalf}
-use Rattle.waits.specs.declared.MaybeHalf.{MaybeHalf}
+use Rattle.waits.specs.declared.HalfWait.{HalfWait}
 
 -- ## `falling` (694)
 
 -- ICMR's WAIT lengthens a master's wait by two clocks, paused or not (753)
-abbrev pub longer : MaybeHalf → Iic → Stepped
-longer NoHalf s = fine s
-longer (Half w) s = clock_from (half_longer w (4 * period_of s.rates s.registers.control)) s
+abbrev pub longer : Option HalfWait → Iic → Stepped
+longer w s = at_wait w (λ v. clock_from (half_longer v (4 * period_of s.rates s.registers.control))) s
 
 -- where ICMR's WAIT asks for it (752)
 unfoldable pub insert_wait_of : Iic → Stepped
@@ -46,9 +41,9 @@ fall_at Data f now s = fine (fall_data_of (load_transmit_of s))
 fall_at Ack f now s = fall_ack_of f now s
 fall_at Done f now s = fine s
 
-abbrev pub fall_in : Framing → Time → Iic → Stepped
-fall_in NoFrame now s = fine (fall_idle_of s)
-fall_in (InFrame f) now s = fall_at f.phase f now s
+abbrev pub fall_in : Option Frame → Time → Iic → Stepped
+fall_in None now s = fine (fall_idle_of s)
+fall_in (Some f) now s = fall_at f.phase f now s
 
 unfoldable pub fall_of : Time → Iic → Stepped
 fall_of now s = fall_in s.frame now s

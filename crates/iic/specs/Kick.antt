@@ -2,28 +2,23 @@
 use Rattle.domain.specs.declared.Domain.{Domain}
 use Rattle.frames.specs.Parts.{is_done, starved}
 use Rattle.frames.specs.declared.Frame.{Frame}
-use Rattle.frames.specs.declared.Framing.TheVariants.{InFrame, NoFrame}
-use Rattle.frames.specs.declared.Framing.{Framing}
-use Rattle.iic.specs.Answers.{and_then, fine}
+use Rattle.iic.specs.Answers.{Stepped, and_then, fine}
 use Rattle.iic.specs.Waiting.{start_clock_of, start_setup_of}
 use Rattle.iic.specs.declared.Iic.{Iic}
-use Rattle.iic.specs.declared.Stepped.{Stepped}
 use Rattle.iic.specs.Conditions.{begun_of}
 use Rattle.iic.specs.Ready.{clock_due, command_ready, level_at, low_half_of, next_frame_of, ready, show_of}
 use Rattle.iic.specs.Setters.{set_hold}
 use Rattle.iic.specs.Shift.{load_transmit_of, set_hold_of}
 use Rattle.iic.specs.State.{master}
-use Rattle.iic.specs.declared.Command.TheVariants.{Commanded, NoCommand}
-use Rattle.iic.specs.declared.Command.{Command}
 use Rattle.iic.specs.declared.Hold.TheVariants.{NoHold, Transmit}
 use Rattle.time.specs.declared.Time.{Time}
-use Rattle.std.specs.Prelude.{cond, not}
+use Rattle.std.specs.Prelude.{cond, not, Bool, None, Option, Some}
 
 -- ## A command (797)
 
-abbrev pub command_in : Command → Time → Domain → Iic → Stepped
-command_in NoCommand now system s = fine s
-command_in (Commanded start) now system s = start_clock_of now system (begun_of start s)
+abbrev pub command_in : Option Bool → Time → Domain → Iic → Stepped
+command_in None now system s = fine s
+command_in (Some start) now system s = start_clock_of now system (begun_of start s)
 
 unfoldable pub begin_condition_of : Time → Domain → Iic → Stepped
 begin_condition_of now system s = command_in s.command now system s
@@ -37,9 +32,9 @@ launch_of f now system s =
     (cond (starved f) (fine (set_hold_of Transmit s))
     (start_clock_of now system (low_half_of (level_at f.phase f s) s)))
 
-abbrev pub launch_in : Framing → Time → Domain → Iic → Stepped
-launch_in NoFrame now system s = fine s
-launch_in (InFrame f) now system s = launch_of f now system s
+abbrev pub launch_in : Option Frame → Time → Domain → Iic → Stepped
+launch_in None now system s = fine s
+launch_in (Some f) now system s = launch_of f now system s
 
 -- where one is due (826)
 unfoldable pub clock_frame_of : Time → Domain → Iic → Stepped

@@ -1,21 +1,18 @@
 -- Definitions: the registers as the host reads them (document 01, Registers and steps; `peek`, `read_at`; numbers in brackets are lines of
 -- iic.rs), with what follows in time.
-use Rattle.std.specs.Prelude.{ℕ, ◌+◌, Bool, ◌&&◌, ◌||◌, cond, false, not, true}
+use Rattle.std.specs.Prelude.{ℕ, ◌+◌, Bool, ◌&&◌, ◌||◌, cond, false, not, true, None, Option, Some}
 use Rattle.std.specs.Int.Bits.{bit_or}
 use Rattle.bus.specs.Bits.{flag, has}
 use Rattle.domain.specs.declared.Domain.{Domain}
 use Rattle.frames.specs.Parts.{mark_in, shown_count}
-use Rattle.iic.specs.Answers.{and_then, fine}
+use Rattle.iic.specs.Answers.{Stepped, and_then, fine}
 use Rattle.registers.specs.Bits.{BBSY, BCWP, IICRST, RCVD, RDRF, SCLO, SCP, SDAO, SDAOP}
 use Rattle.iic.specs.Kick.{kick_of, release_hold_of}
 use Rattle.iic.specs.Setters.{set_frame, set_receive_enabled, set_seen, set_stale_release}
 use Rattle.iic.specs.State.{clear_flags, held, master, transmits}
-use Rattle.iic.specs.declared.EighthFall.{EighthFall}
-use Rattle.iic.specs.declared.EighthFall.TheVariants.{FellAt, NoFall}
 use Rattle.iic.specs.declared.Iic.{Iic}
 use Rattle.registers.specs.declared.Register.{Register}
 use Rattle.registers.specs.declared.Register.TheVariants.{ICCR1, ICCR2, ICDRR, ICDRT, ICIER, ICMR, ICSR, SAR}
-use Rattle.iic.specs.declared.Stepped.{Stepped}
 use Rattle.time.specs.Time.{same_time}
 use Rattle.time.specs.declared.Time.{Time}
 
@@ -40,9 +37,9 @@ peek_at ICDRR s = s.registers.rdr
 -- ## `read_at`: ICDRR
 
 -- the eighth fall was at this very time (233)
-abbrev pub fell_now : EighthFall → Time → Bool
-fell_now NoFall now = false
-fell_now (FellAt t) now = same_time t now
+abbrev pub fell_now : Option Time → Time → Bool
+fell_now None now = false
+fell_now (Some t) now = same_time t now
 
 -- ICSR's RDRF is cleared, and a read at the very time of the eighth fall is noted (231)
 unfoldable pub taken_of : Time → Iic → Iic

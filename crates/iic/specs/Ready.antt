@@ -4,8 +4,6 @@ use Rattle.bus.specs.Bits.{has}
 use Rattle.bus.specs.Bus.{levels}
 use Rattle.frames.specs.Parts.{data_level}
 use Rattle.frames.specs.declared.Frame.{Frame}
-use Rattle.frames.specs.declared.Framing.{Framing}
-use Rattle.frames.specs.declared.Framing.TheVariants.{InFrame, NoFrame}
 use Rattle.frames.specs.declared.Phase.{Phase}
 use Rattle.frames.specs.declared.Phase.TheVariants.{Ack, Data, Done}
 use Rattle.registers.specs.Bits.{ACKBT, NACKF}
@@ -14,7 +12,7 @@ use Rattle.iic.specs.Shift.{begin_frame_of}
 use Rattle.iic.specs.State.{awake, commanded, conditioned, drive_sda, framed, held, master, synchronous, transmits}
 use Rattle.iic.specs.declared.Iic.{Iic}
 use Rattle.waits.specs.Ends.{is_half}
-use Rattle.std.specs.Prelude.{Bool, ◌&&◌, ◌||◌, cond, false, not}
+use Rattle.std.specs.Prelude.{Bool, ◌&&◌, ◌||◌, cond, false, not, None, Option, Some}
 
 -- nothing is started while the peripheral is disabled, its gate is off, in reset, or while a condition is under way (790)
 abbrev pub ready : Iic → Bool
@@ -70,9 +68,9 @@ released_level Data f s = data_level f
 released_level Ack f s = has s.registers.enable ACKBT
 released_level Done f s = data_level f
 
-abbrev pub show_in : Framing → Iic → Iic
-show_in NoFrame s = s
-show_in (InFrame f) s = drive_sda (released_level f.phase f s) s
+abbrev pub show_in : Option Frame → Iic → Iic
+show_in None s = s
+show_in (Some f) s = drive_sda (released_level f.phase f s) s
 
 unfoldable pub show_of : Iic → Iic
 show_of s = show_in s.frame s

@@ -1,5 +1,5 @@
 -- Laws: the starred rows of document 01, as one table with one fact. Those on registers begin at the default.
-use Rattle.std.specs.Prelude.{◌+◌, ◌^◌, ℕ, Bool, false, true, List, [], ◌∷◌, map, ◌≡◌, refl}
+use Rattle.std.specs.Prelude.{◌+◌, ◌^◌, ℕ, Bool, false, true, List, [], ◌∷◌, map, ◌≡◌, refl, Err, None, Ok, Option, Result, Some}
 use Rattle.bus.specs.Bits.{flag}
 use Rattle.clocks.specs.Clocks.{has_zero}
 use Rattle.domain.specs.Domain.{domain_ticks, running_from}
@@ -12,8 +12,6 @@ use Rattle.iic.specs.Calls.{guard_by, peek_of, pins_of, read_of, write_of}
 use Rattle.iic.specs.Kick.{kick_of}
 use Rattle.iic.specs.State.{default_iic, initial, stop_shifter_of}
 use Rattle.iic.specs.declared.Iic.{Iic}
-use Rattle.iic.specs.declared.Pins.TheVariants.{Driven, NoPins}
-use Rattle.iic.specs.declared.Pins.{Pins}
 use Rattle.iic.specs.Reading.{peek_at}
 use Rattle.registers.specs.Registers.{register_at}
 use Rattle.iic.specs.Writing.{control_set, give_data_of, redirected, take_control_of, write_enable_of, write_mode_of, write_status_of}
@@ -23,14 +21,13 @@ use Rattle.time.specs.Clock.{after_of, edge_of, edges_before_of, zero_in}
 use Rattle.time.proofs.Laws.{edges_before_is}
 use Rattle.time.specs.Time.{moment_of, next_time, time_of}
 use Rattle.time.specs.declared.Clock.{Clock}
-use Rattle.time.specs.declared.Count.TheVariants as count
-use Rattle.time.specs.declared.Count.{Count}
-use Rattle.time.specs.declared.Moment.TheVariants as moment
-use Rattle.time.specs.declared.Moment.{Moment}
 use Rattle.time.specs.declared.Time.{Time}
 use Rattle.rates.specs.Rates.{default_rates, lengths_hold, monitor_below, monitor_halves, period_of, rate, rates_hold}
 use Rattle.std.proofs.Common.{lit<, sym}
 use Rattle.std.proofs.Math.Path.{subst}
+use Rattle.bus.specs.declared.Levels.{Levels}
+use Rattle.refusals.specs.Refusals.{number_of}
+use Rattle.refusals.specs.declared.Refusal.{Refusal}
 
 -- what a row shows, and what document 01 has
 pub record Row : Type 0 where
@@ -41,19 +38,19 @@ abbrev row : ℕ → ℕ → Row
 row n m = record { shown = n; expected = m }
 
 -- 0 where `pins` is none
-abbrev drives : Pins → ℕ
-drives NoPins = 0
-drives (Driven l) = 1
+abbrev drives : Option Levels → ℕ
+drives None = 0
+drives (Some l) = 1
 
 -- a time in units of 2^-64 s, and what no time is for a refusal
-abbrev units : Moment → ℕ
-units (moment.At t) = time_of t
-units (moment.Refused n) = 2 ^ 128 + n
+abbrev units : Result Time Refusal → ℕ
+units (Ok t) = time_of t
+units (Err n) = 2 ^ 128 + number_of n
 
 -- a count, and what no count is for a refusal
-abbrev number : Count → ℕ
-number (count.Of n) = n
-number (count.Refused n) = 2 ^ 64 + n
+abbrev number : Result ℕ Refusal → ℕ
+number (Ok n) = n
+number (Err n) = 2 ^ 64 + number_of n
 
 abbrev at : ℕ → Time
 at f = record { seconds = 0; fraction = f }
@@ -63,7 +60,7 @@ abbrev third : Clock
 third = record { start = at 0; numerator = 3; denominator = 1; ordinal = 0; fraction = 0 }
 
 -- the count of a running domain
-abbrev ticks_at : ℕ → Count
+abbrev ticks_at : ℕ → Result ℕ Refusal
 ticks_at f = domain_ticks (running_from (at 0) third) (at f)
 
 -- the bits of the byte a1 on SDA at eight rising edges of SCL, from a frame as `begin_frame` makes it, with SAR a0

@@ -1,18 +1,17 @@
 -- Definitions: the state with one part set anew, one setter for each field that it has of the Rust's (iic.rs 96) and for each group of them. None
 -- sets the rate set.
-use Rattle.std.specs.Prelude.{ℕ, Bool}
+use Rattle.std.specs.Prelude.{ℕ, Bool, Option}
 use Rattle.bus.specs.declared.Levels.{Levels}
 use Rattle.iic.specs.declared.Iic.{Iic}
 use Rattle.registers.specs.declared.Registers.{Registers}
 use Rattle.iic.specs.declared.Lines.{Lines}
 use Rattle.iic.specs.declared.Flags.{Flags}
-use Rattle.frames.specs.declared.Framing.{Framing}
 use Rattle.iic.specs.declared.Condition.{Condition}
-use Rattle.iic.specs.declared.Command.{Command}
 use Rattle.iic.specs.declared.Hold.{Hold}
-use Rattle.iic.specs.declared.EighthFall.{EighthFall}
-use Rattle.waits.specs.declared.MaybeHalf.{MaybeHalf}
-use Rattle.waits.specs.declared.MaybeWait.{MaybeWait}
+use Rattle.clocks.specs.declared.wait.ClockWait.{ClockWait}
+use Rattle.frames.specs.declared.Frame.{Frame}
+use Rattle.time.specs.declared.Time.{Time}
+use Rattle.waits.specs.declared.HalfWait.{HalfWait}
 
 abbrev pub set_registers : Registers → Iic → Iic
 set_registers x s = record { registers = x; lines = s.lines; flags = s.flags; frame = s.frame; condition = s.condition; command = s.command; hold = s.hold; eighth_fall = s.eighth_fall; clock_wait = s.clock_wait; monitor_wait = s.monitor_wait; filter_wait = s.filter_wait; setup_wait = s.setup_wait; rates = s.rates }
@@ -23,31 +22,31 @@ set_lines x s = record { registers = s.registers; lines = x; flags = s.flags; fr
 abbrev pub set_flags : Flags → Iic → Iic
 set_flags x s = record { registers = s.registers; lines = s.lines; flags = x; frame = s.frame; condition = s.condition; command = s.command; hold = s.hold; eighth_fall = s.eighth_fall; clock_wait = s.clock_wait; monitor_wait = s.monitor_wait; filter_wait = s.filter_wait; setup_wait = s.setup_wait; rates = s.rates }
 
-abbrev pub set_frame : Framing → Iic → Iic
+abbrev pub set_frame : Option Frame → Iic → Iic
 set_frame x s = record { registers = s.registers; lines = s.lines; flags = s.flags; frame = x; condition = s.condition; command = s.command; hold = s.hold; eighth_fall = s.eighth_fall; clock_wait = s.clock_wait; monitor_wait = s.monitor_wait; filter_wait = s.filter_wait; setup_wait = s.setup_wait; rates = s.rates }
 
 abbrev pub set_condition : Condition → Iic → Iic
 set_condition x s = record { registers = s.registers; lines = s.lines; flags = s.flags; frame = s.frame; condition = x; command = s.command; hold = s.hold; eighth_fall = s.eighth_fall; clock_wait = s.clock_wait; monitor_wait = s.monitor_wait; filter_wait = s.filter_wait; setup_wait = s.setup_wait; rates = s.rates }
 
-abbrev pub set_command : Command → Iic → Iic
+abbrev pub set_command : Option Bool → Iic → Iic
 set_command x s = record { registers = s.registers; lines = s.lines; flags = s.flags; frame = s.frame; condition = s.condition; command = x; hold = s.hold; eighth_fall = s.eighth_fall; clock_wait = s.clock_wait; monitor_wait = s.monitor_wait; filter_wait = s.filter_wait; setup_wait = s.setup_wait; rates = s.rates }
 
 abbrev pub set_hold : Hold → Iic → Iic
 set_hold x s = record { registers = s.registers; lines = s.lines; flags = s.flags; frame = s.frame; condition = s.condition; command = s.command; hold = x; eighth_fall = s.eighth_fall; clock_wait = s.clock_wait; monitor_wait = s.monitor_wait; filter_wait = s.filter_wait; setup_wait = s.setup_wait; rates = s.rates }
 
-abbrev pub set_eighth_fall : EighthFall → Iic → Iic
+abbrev pub set_eighth_fall : Option Time → Iic → Iic
 set_eighth_fall x s = record { registers = s.registers; lines = s.lines; flags = s.flags; frame = s.frame; condition = s.condition; command = s.command; hold = s.hold; eighth_fall = x; clock_wait = s.clock_wait; monitor_wait = s.monitor_wait; filter_wait = s.filter_wait; setup_wait = s.setup_wait; rates = s.rates }
 
-abbrev pub set_clock_wait : MaybeHalf → Iic → Iic
+abbrev pub set_clock_wait : Option HalfWait → Iic → Iic
 set_clock_wait x s = record { registers = s.registers; lines = s.lines; flags = s.flags; frame = s.frame; condition = s.condition; command = s.command; hold = s.hold; eighth_fall = s.eighth_fall; clock_wait = x; monitor_wait = s.monitor_wait; filter_wait = s.filter_wait; setup_wait = s.setup_wait; rates = s.rates }
 
-abbrev pub set_monitor_wait : MaybeHalf → Iic → Iic
+abbrev pub set_monitor_wait : Option HalfWait → Iic → Iic
 set_monitor_wait x s = record { registers = s.registers; lines = s.lines; flags = s.flags; frame = s.frame; condition = s.condition; command = s.command; hold = s.hold; eighth_fall = s.eighth_fall; clock_wait = s.clock_wait; monitor_wait = x; filter_wait = s.filter_wait; setup_wait = s.setup_wait; rates = s.rates }
 
-abbrev pub set_filter_wait : MaybeWait → Iic → Iic
+abbrev pub set_filter_wait : Option ClockWait → Iic → Iic
 set_filter_wait x s = record { registers = s.registers; lines = s.lines; flags = s.flags; frame = s.frame; condition = s.condition; command = s.command; hold = s.hold; eighth_fall = s.eighth_fall; clock_wait = s.clock_wait; monitor_wait = s.monitor_wait; filter_wait = x; setup_wait = s.setup_wait; rates = s.rates }
 
-abbrev pub set_setup_wait : MaybeWait → Iic → Iic
+abbrev pub set_setup_wait : Option ClockWait → Iic → Iic
 set_setup_wait x s = record { registers = s.registers; lines = s.lines; flags = s.flags; frame = s.frame; condition = s.condition; command = s.command; hold = s.hold; eighth_fall = s.eighth_fall; clock_wait = s.clock_wait; monitor_wait = s.monitor_wait; filter_wait = s.filter_wait; setup_wait = x; rates = s.rates }
 
 -- the parts of `registers`

@@ -2,26 +2,25 @@
 -- a call cites it.
 use Rattle.bus.specs.Bits.{has}
 use Rattle.frames.specs.Parts.{is_done, starved}
-use Rattle.frames.specs.declared.Framing.TheVariants.{InFrame, NoFrame}
-use Rattle.frames.specs.declared.Framing.{Framing}
 use Rattle.registers.specs.Bits.{TDRE}
 use Rattle.iic.specs.Ready.{clock_due, command_ready, frame_due, ready}
 use Rattle.iic.specs.State.{synchronous}
 use Rattle.iic.specs.declared.Iic.{Iic}
-use Rattle.std.specs.Prelude.{Bool, ◌&&◌, ◌||◌, false, not, true}
+use Rattle.std.specs.Prelude.{Bool, ◌&&◌, ◌||◌, false, not, true, None, Option, Some}
+use Rattle.frames.specs.declared.Frame.{Frame}
 
 -- the frame waits for a byte, and ICDRT has one, TDRE being 0
-abbrev pub loads_in : Framing → Bool → Bool
-loads_in NoFrame empty = false
-loads_in (InFrame f) empty = starved f && not empty
+abbrev pub loads_in : Option Frame → Bool → Bool
+loads_in None empty = false
+loads_in (Some f) empty = starved f && not empty
 
 abbrev pub loads : Iic → Bool
 loads s = loads_in s.frame (has s.registers.status TDRE)
 
 -- no clock is started for the frame: there is none, it is through, or it waits for its byte in synchronous mode
-abbrev pub rests_in : Framing → Bool → Bool
-rests_in NoFrame sync = true
-rests_in (InFrame f) sync = is_done f.phase || starved f && sync
+abbrev pub rests_in : Option Frame → Bool → Bool
+rests_in None sync = true
+rests_in (Some f) sync = is_done f.phase || starved f && sync
 
 abbrev pub rests : Iic → Bool
 rests s = rests_in s.frame (synchronous s)

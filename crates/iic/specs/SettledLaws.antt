@@ -1,5 +1,5 @@
 -- Laws: a kick does nothing on a settled state, at any time; a state that isn't settled is ready.
-use Rattle.std.specs.Prelude.{Bool, true, false, not, ◌&&◌, ◌||◌, cond, ◌≡◌, refl}
+use Rattle.std.specs.Prelude.{Bool, true, false, not, ◌&&◌, ◌||◌, cond, ◌≡◌, refl, None, Option, Some}
 use Rattle.std.proofs.Common.{true≢false}
 use Rattle.std.proofs.lemmas.Bool.{false≢true}
 use Rattle.bus.specs.Bits.{has}
@@ -7,8 +7,6 @@ use Rattle.time.specs.Truths.{and_left, and_right, not_so}
 use Rattle.time.specs.declared.Time.{Time}
 use Rattle.domain.specs.declared.Domain.{Domain}
 use Rattle.frames.specs.declared.Frame.{Frame}
-use Rattle.frames.specs.declared.Framing.{Framing}
-use Rattle.frames.specs.declared.Framing.TheVariants.{NoFrame, InFrame}
 use Rattle.frames.specs.Parts.{starved, is_done}
 use Rattle.iic.specs.declared.Iic.{Iic}
 use Rattle.iic.specs.declared.Hold.{Hold}
@@ -25,9 +23,9 @@ next_same : (s : Iic) → frame_due s ≡ false → next_frame_of s ≡ s
 unfolding next_frame_of
 next_same s h = rw h
 
-load_same : (fr : Framing) (s : Iic) → loads_in fr (has s.registers.status TDRE) ≡ false → load_in fr s ≡ s
-load_same NoFrame s h = refl
-load_same (InFrame f) s h = rw h
+load_same : (fr : Option Frame) (s : Iic) → loads_in fr (has s.registers.status TDRE) ≡ false → load_in fr s ≡ s
+load_same None s h = refl
+load_same (Some f) s h = rw h
 
 hold_same : (h : Hold) (s : Iic) → synchronous s ≡ true → set_hold_of h s ≡ s
 unfolding set_hold_of
@@ -40,11 +38,11 @@ launch_rests now k f s true w p q h = rw p
 launch_rests now k f s false true p q h = rw (p, q, hold_same Transmit s h)
 launch_rests now k f s false false p q h = absurd (false≢true h)
 
-clock_same : (now : Time) (k : Domain) (fr : Framing) (s : Iic) (b : Bool) → (not b || rests_in fr (synchronous s)) ≡ true
+clock_same : (now : Time) (k : Domain) (fr : Option Frame) (s : Iic) (b : Bool) → (not b || rests_in fr (synchronous s)) ≡ true
     → cond b (launch_in fr now k s) (fine s) ≡ fine s
 clock_same now k fr s false h = refl
-clock_same now k NoFrame s true h = refl
-clock_same now k (InFrame f) s true h = launch_rests now k f s (is_done f.phase) (starved f) refl refl h
+clock_same now k None s true h = refl
+clock_same now k (Some f) s true h = launch_rests now k f s (is_done f.phase) (starved f) refl refl h
 
 rest_same : (now : Time) (k : Domain) (s : Iic) → at_rest s ≡ true → clock_frame_of now k (load_transmit_of (next_frame_of s)) ≡ fine s
 unfolding clock_frame_of load_transmit_of

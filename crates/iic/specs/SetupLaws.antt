@@ -1,15 +1,10 @@
 -- Laws: what the filter brings leaves the setup's wait alone. Assumes nothing.
 use Rattle.bus.specs.declared.Levels.{Levels}
 use Rattle.domain.specs.declared.Domain.{Domain}
-use Rattle.clocks.specs.declared.wait.Deadline.{Deadline}
-use Rattle.clocks.specs.declared.wait.NewWait.TheVariants as wait
-use Rattle.clocks.specs.declared.wait.NewWait.{NewWait}
 use Rattle.frames.specs.declared.Frame.{Frame}
-use Rattle.frames.specs.declared.Framing.TheVariants.{InFrame, NoFrame}
-use Rattle.frames.specs.declared.Framing.{Framing}
 use Rattle.frames.specs.declared.Phase.TheVariants.{Ack, Data, Done}
 use Rattle.frames.specs.declared.Phase.{Phase}
-use Rattle.iic.specs.Answers.{and_then, go_on}
+use Rattle.iic.specs.Answers.{Stepped, and_then, go_on}
 use Rattle.iic.specs.Clocking.{filter_fires_of, fire_filter_of, firing}
 use Rattle.iic.specs.Conditions.{begun_of, bus_edge_of, raised_of}
 use Rattle.iic.specs.Edges.{condition_step_of, fall_ack_of, fall_at, fall_in, fall_of, fall_on, falling_of, filtered_edges_of, insert_wait_of, longer, scl_edge_of, stretch_ends_of}
@@ -21,26 +16,16 @@ use Rattle.iic.specs.Setters.{set_filter_wait}
 use Rattle.iic.specs.Shift.{load_transmit_of, rising_of, set_hold_of}
 use Rattle.iic.specs.Timing.{Dropping}
 use Rattle.iic.specs.TimingLaws.{begun, bus_edge, end_frame, fall_data, fall_idle, fall_taken, follow, hold, load, next_frame, raised, rising}
-use Rattle.iic.specs.Waiting.{clock_from, filter_from, schedule_filter_of, start_clock_of, turn_clock_of, turn_half_in}
-use Rattle.iic.specs.declared.Command.TheVariants.{Commanded, NoCommand}
-use Rattle.iic.specs.declared.Command.{Command}
-use Rattle.iic.specs.declared.Ended.TheVariants as ended
-use Rattle.iic.specs.declared.Ended.{Ended}
+use Rattle.iic.specs.Waiting.{clock_from, filter_from, schedule_filter_of, start_clock_of, turn_clock_of, at_wait}
 use Rattle.iic.specs.declared.Hold.{Hold}
 use Rattle.iic.specs.declared.Iic.{Iic}
-use Rattle.iic.specs.declared.Stepped.{Stepped}
 use Rattle.time.specs.declared.Time.{Time}
-use Rattle.waits.specs.Ends.{due_of}
-use Rattle.waits.specs.declared.Due.TheVariants as due
-use Rattle.waits.specs.declared.Due.{Due}
-use Rattle.waits.specs.declared.MaybeHalf.TheVariants.{Half, NoHalf}
-use Rattle.waits.specs.declared.MaybeHalf.{MaybeHalf}
-use Rattle.waits.specs.declared.MaybeWait.TheVariants.{NoWait}
-use Rattle.waits.specs.declared.MaybeWait.{MaybeWait}
-use Rattle.waits.specs.declared.NewHalf.TheVariants as half
-use Rattle.waits.specs.declared.NewHalf.{NewHalf}
-use Rattle.std.specs.Prelude.{Bool, cond, false, true, ◌≡◌, refl}
+use Rattle.waits.specs.Ends.{due_of, turn_half}
+use Rattle.std.specs.Prelude.{Bool, cond, false, true, ◌≡◌, refl, Err, None, Ok, Option, Result, Some, ⊤}
 use Rattle.std.proofs.Common.{◌∙◌}
+use Rattle.clocks.specs.declared.wait.ClockWait.{ClockWait}
+use Rattle.refusals.specs.declared.Refusal.{Refusal}
+use Rattle.waits.specs.declared.HalfWait.{HalfWait}
 
 -- ## By a test
 
@@ -48,20 +33,20 @@ state_by_lem : (b : Bool) (x y : Stepped) → (cond b x y).state.setup_wait ≡ 
 state_by_lem true x y = refl
 state_by_lem false x y = refl
 
-both : (b : Bool) (w : MaybeWait) → cond b w w ≡ w
+both : (b : Bool) (w : Option ClockWait) → cond b w w ≡ w
 both true w = refl
 both false w = refl
 
 then_kept : (o : Stepped) (f : Iic → Stepped) → ((u : Iic) → (f u).state.setup_wait ≡ u.setup_wait) → (and_then o f).state.setup_wait ≡ o.state.setup_wait
-then_kept o f k = go o.ended
+then_kept o f k = go o.answer
   where
-    go : (e : Ended) → (go_on e o f).state.setup_wait ≡ o.state.setup_wait
-    go ended.Finished = k o.state
-    go (ended.Refused n) = refl
+    go : (e : Result ⊤ Refusal) → (go_on e o f).state.setup_wait ≡ o.state.setup_wait
+    go (Ok u) = k o.state
+    go (Err n) = refl
 
 -- ## Steps that ask no clock
 
-left : (w : MaybeWait) → Dropping (λ t. t.setup ≡ w)
+left : (w : Option ClockWait) → Dropping (λ t. t.setup ≡ w)
 left w = record { monitor = λ x h t e. e; both = λ x h t e. e }
 
 load_left : (s : Iic) → (load_transmit_of s).setup_wait ≡ s.setup_wait
@@ -102,25 +87,25 @@ next_frame_left s = next_frame (left s.setup_wait) s refl
 
 -- ## Steps in time
 
-clock_from_lem : (x : NewHalf) (s : Iic) → (clock_from x s).state.setup_wait ≡ s.setup_wait
-clock_from_lem (half.Made v) s = refl
-clock_from_lem (half.Refused n) s = refl
+clock_from_lem : (x : Result HalfWait Refusal) (s : Iic) → (clock_from x s).state.setup_wait ≡ s.setup_wait
+clock_from_lem (Ok v) s = refl
+clock_from_lem (Err n) s = refl
 
-filter_from_lem : (x : NewWait) (s : Iic) → (filter_from x s).state.setup_wait ≡ s.setup_wait
-filter_from_lem (wait.Made v) s = refl
-filter_from_lem (wait.Refused n) s = refl
+filter_from_lem : (x : Result ClockWait Refusal) (s : Iic) → (filter_from x s).state.setup_wait ≡ s.setup_wait
+filter_from_lem (Ok v) s = refl
+filter_from_lem (Err n) s = refl
 
 start_clock : (now : Time) (d : Domain) (s : Iic) → (start_clock_of now d s).state.setup_wait ≡ s.setup_wait
 unfolding start_clock_of
 start_clock now d s = simp clock_from_lem
 
-turn_in : (x : MaybeHalf) (gate : Bool) (now : Time) (d : Domain) (s : Iic) → (turn_half_in clock_from gate now d x s).state.setup_wait ≡ s.setup_wait
-turn_in NoHalf gate now d s = refl
-turn_in (Half v) gate now d s = simp clock_from_lem
+turn_in : (x : Option HalfWait) (gate : Bool) (now : Time) (d : Domain) (s : Iic) → (at_wait x (λ w. clock_from (turn_half gate now d w)) s).state.setup_wait ≡ s.setup_wait
+turn_in None gate now d s = refl
+turn_in (Some v) gate now d s = simp clock_from_lem
 
-longer_in : (x : MaybeHalf) (s : Iic) → (longer x s).state.setup_wait ≡ s.setup_wait
-longer_in NoHalf s = refl
-longer_in (Half v) s = simp clock_from_lem
+longer_in : (x : Option HalfWait) (s : Iic) → (longer x s).state.setup_wait ≡ s.setup_wait
+longer_in None s = refl
+longer_in (Some v) s = simp clock_from_lem
 
 fall_ack : (f : Frame) (now : Time) (s : Iic) → (fall_ack_of f now s).state.setup_wait ≡ s.setup_wait
 unfolding fall_ack_of insert_wait_of
@@ -131,22 +116,22 @@ fall_at_lem Data f now s = simp (fall_data_left, load_left)
 fall_at_lem Ack f now s = fall_ack f now s
 fall_at_lem Done f now s = refl
 
-fall_in_lem : (fr : Framing) (now : Time) (s : Iic) → (fall_in fr now s).state.setup_wait ≡ s.setup_wait
-fall_in_lem NoFrame now s = fall_idle_left s
-fall_in_lem (InFrame f) now s = fall_at_lem f.phase f now s
+fall_in_lem : (fr : Option Frame) (now : Time) (s : Iic) → (fall_in fr now s).state.setup_wait ≡ s.setup_wait
+fall_in_lem None now s = fall_idle_left s
+fall_in_lem (Some f) now s = fall_at_lem f.phase f now s
 
 fall_on_lem : (now : Time) (s : Iic) → (fall_on now s).state.setup_wait ≡ s.setup_wait
 unfolding fall_of
 fall_on_lem now s = simp (fall_in_lem, follow_left)
 
-command_in_lem : (x : Command) (now : Time) (d : Domain) (s : Iic) → (command_in x now d s).state.setup_wait ≡ s.setup_wait
-command_in_lem NoCommand now d s = refl
-command_in_lem (Commanded start) now d s = simp (start_clock, begun_left)
+command_in_lem : (x : Option Bool) (now : Time) (d : Domain) (s : Iic) → (command_in x now d s).state.setup_wait ≡ s.setup_wait
+command_in_lem None now d s = refl
+command_in_lem (Some start) now d s = simp (start_clock, begun_left)
 
-launch_in_lem : (fr : Framing) (now : Time) (d : Domain) (s : Iic) → (launch_in fr now d s).state.setup_wait ≡ s.setup_wait
+launch_in_lem : (fr : Option Frame) (now : Time) (d : Domain) (s : Iic) → (launch_in fr now d s).state.setup_wait ≡ s.setup_wait
 unfolding launch_of low_half_of
-launch_in_lem NoFrame now d s = refl
-launch_in_lem (InFrame f) now d s = simp (state_by_lem, both, hold_left, start_clock)
+launch_in_lem None now d s = refl
+launch_in_lem (Some f) now d s = simp (state_by_lem, both, hold_left, start_clock)
 
 clock_frame : (now : Time) (d : Domain) (s : Iic) → (clock_frame_of now d s).state.setup_wait ≡ s.setup_wait
 unfolding clock_frame_of
@@ -187,15 +172,15 @@ schedule_filter now d s = simp (state_by_lem, both, filter_from_lem)
 filter_fires : (now : Time) (d : Domain) (s : Iic) → (filter_fires_of now d s).state.setup_wait ≡ s.setup_wait
 unfolding filter_fires_of filter_pass_of
 filter_fires now d s =
-    let t : Iic = set_filter_wait NoWait (filter_pass_of s) in
+    let t : Iic = set_filter_wait None (filter_pass_of s) in
     then_kept (filtered_edges_of s.lines.filtered now d t) (schedule_filter_of now d) (schedule_filter now d) ∙ filtered_edges s.lines.filtered now d t
 
-fire_in : (x : Due) (now : Time) (d : Domain) (s : Iic) → (firing x s (filter_fires_of now d s)).state.setup_wait ≡ s.setup_wait
-fire_in due.Now now d s = filter_fires now d s
-fire_in due.NotNow now d s = refl
-fire_in (due.Refused n) now d s = refl
+fire_in : (x : Result Bool Refusal) (now : Time) (d : Domain) (s : Iic) → (firing x s (filter_fires_of now d s)).state.setup_wait ≡ s.setup_wait
+fire_in (Ok true) now d s = filter_fires now d s
+fire_in (Ok false) now d s = refl
+fire_in (Err n) now d s = refl
 
 -- the filter's wait fires or not
-pub setup_kept : (end : Deadline) (now : Time) (d : Domain) (s : Iic) → (fire_filter_of end now d s).state.setup_wait ≡ s.setup_wait
+pub setup_kept : (end : Result (Option Time) Refusal) (now : Time) (d : Domain) (s : Iic) → (fire_filter_of end now d s).state.setup_wait ≡ s.setup_wait
 unfolding fire_filter_of
 setup_kept end now d s = fire_in (due_of end now) now d s

@@ -1,19 +1,16 @@
 -- Definitions: the shifter, from a frame's beginning to its completion. Each section is a function of iic.rs, and numbers in brackets are lines
 -- of it.
-use Rattle.std.specs.Prelude.{◌+◌, ℕ, eqb, Bool, ◌&&◌, ◌||◌, cond, false, not, true}
+use Rattle.std.specs.Prelude.{◌+◌, ℕ, eqb, Bool, ◌&&◌, ◌||◌, cond, false, not, true, None, Option, Some}
 use Rattle.bus.specs.Bits.{flag, has, without}
 use Rattle.bus.specs.Bus.{is_acknowledge, is_general_call, is_read, levels}
 use Rattle.frames.specs.Mirror.{ordered}
 use Rattle.frames.specs.Parts.{bits_of, filled, phased, sampled, starved, yield_in}
 use Rattle.frames.specs.declared.Frame.{Frame}
-use Rattle.frames.specs.declared.Framing.{Framing}
-use Rattle.frames.specs.declared.Framing.TheVariants.{InFrame, NoFrame}
 use Rattle.frames.specs.declared.Phase.{Phase}
 use Rattle.frames.specs.declared.Phase.TheVariants.{Ack, Data, Done}
 use Rattle.registers.specs.Bits.{AAS, ACKBR, ACKE, ADZ, AL, MLS, MST, NACKF, RCVD, RDRF, SVA, TDRE, TEND, TRS}
 use Rattle.iic.specs.Setters.{set_command, set_completed, set_condition, set_control, set_count, set_drive, set_enable, set_frame, set_hold, set_rdr, set_receive_enabled, set_receive_stopped, set_selected, set_synchronized_hold}
 use Rattle.iic.specs.State.{clear_control, drive_scl, master, raise, synchronous, transmits, unclocked}
-use Rattle.iic.specs.declared.Command.TheVariants.{NoCommand}
 use Rattle.iic.specs.declared.Condition.TheVariants.{NoCondition}
 use Rattle.iic.specs.declared.Iic.{Iic}
 use Rattle.iic.specs.declared.Hold.{Hold}
@@ -25,9 +22,9 @@ use Rattle.std.specs.Int.Bits.{bit_and, bit_or}
 abbrev pub can_load : Iic → Frame → Bool
 can_load s f = starved f && not (has s.registers.status TDRE)
 
-abbrev pub load_in : Framing → Iic → Iic
-load_in NoFrame s = s
-load_in (InFrame f) s = cond (can_load s f) (set_frame (InFrame (filled s.registers.tdr f)) (raise TDRE s)) s
+abbrev pub load_in : Option Frame → Iic → Iic
+load_in None s = s
+load_in (Some f) s = cond (can_load s f) (set_frame (Some (filled s.registers.tdr f)) (raise TDRE s)) s
 
 unfoldable pub load_transmit_of : Iic → Iic
 load_transmit_of s = load_in s.frame s
@@ -51,14 +48,14 @@ fresh address s = record {
 }
 
 unfoldable pub begin_frame_of : Bool → Iic → Iic
-begin_frame_of address s = load_transmit_of (set_frame (InFrame (fresh address s)) s)
+begin_frame_of address s = load_transmit_of (set_frame (Some (fresh address s)) s)
 
 -- ## `arbitration_lost`: ICSR's AL is raised, ICCR1's MST and TRS are cleared, and what the master was about is dropped (593)
 
 unfoldable pub arbitration_lost_of : Iic → Iic
 arbitration_lost_of s =
     raise AL (clear_control (MST + TRS) (set_drive (levels true true) (unclocked (set_synchronized_hold false (set_condition NoCondition
-    (set_command NoCommand (set_hold NoHold (set_frame (yield_in s.frame) s))))))))
+    (set_command None (set_hold NoHold (set_frame (yield_in s.frame) s))))))))
 
 -- ## `set_hold`: SCL is held low, except in synchronous mode (763)
 
@@ -142,11 +139,11 @@ finished_of last s =
 
 -- synchronous mode has no acknowledge (640)
 unfoldable pub end_synchronous_of : Frame → Bool → Iic → Iic
-end_synchronous_of f sda s = set_frame (InFrame (phased Done f)) (finished_of f.last (complete_frame_of f sda s))
+end_synchronous_of f sda s = set_frame (Some (phased Done f)) (finished_of f.last (complete_frame_of f sda s))
 
 -- the byte is in: outside synchronous mode the acknowledge follows (639)
 abbrev pub end_bits : Frame → Bool → Iic → Iic
-end_bits f sda s = cond (synchronous s) (end_synchronous_of f sda s) (set_frame (InFrame (phased Ack f)) s)
+end_bits f sda s = cond (synchronous s) (end_synchronous_of f sda s) (set_frame (Some (phased Ack f)) s)
 
 -- an address is compared first (624)
 unfoldable pub last_bit_of : Frame → Bool → Iic → Iic
@@ -154,7 +151,7 @@ last_bit_of f sda s = end_bits f sda (addressed_of f s)
 
 -- the last bit, or one before it (623)
 abbrev pub bit_taken : Frame → Bool → Iic → Iic
-bit_taken f sda s = cond (eqb f.remaining 0) (last_bit_of f sda s) (set_frame (InFrame f) s)
+bit_taken f sda s = cond (eqb f.remaining 0) (last_bit_of f sda s) (set_frame (Some f) s)
 
 -- document 01: a bit is sampled, high bit first; before it a look at who drives SDA (616)
 unfoldable pub rising_data_of : Frame → Bool → Iic → Iic
@@ -162,7 +159,7 @@ rising_data_of f sda s = bit_taken (sampled (loses f sda s) sda f) sda (when_los
 
 -- the acknowledge (654)
 unfoldable pub rising_ack_of : Frame → Bool → Iic → Iic
-rising_ack_of f sda s = set_frame (InFrame (phased Done f)) (complete_frame_of f sda s)
+rising_ack_of f sda s = set_frame (Some (phased Done f)) (complete_frame_of f sda s)
 
 -- by the phase (615)
 abbrev pub rising_at : Phase → Frame → Bool → Iic → Iic
@@ -171,9 +168,9 @@ rising_at Ack f sda s = rising_ack_of f sda s
 rising_at Done f sda s = s
 
 -- document 01: where no frame is in progress a rising clock changes nothing; nor does it for a frame that waits for its byte (609, 612)
-abbrev pub rising_in : Framing → Bool → Iic → Iic
-rising_in NoFrame sda s = s
-rising_in (InFrame f) sda s = cond (not f.loaded) s (rising_at f.phase f sda s)
+abbrev pub rising_in : Option Frame → Bool → Iic → Iic
+rising_in None sda s = s
+rising_in (Some f) sda s = cond (not f.loaded) s (rising_at f.phase f sda s)
 
 unfoldable pub rising_of : Bool → Iic → Iic
 rising_of sda s = rising_in s.frame sda s

@@ -1,28 +1,23 @@
 -- Definitions: the default, the tests on a state and its parts, and the small changes that many steps share. Numbers in brackets are lines of
 -- iic.rs.
-use Rattle.std.specs.Prelude.{ℕ, Bool, ◌&&◌, cond, false, true}
+use Rattle.std.specs.Prelude.{ℕ, Bool, ◌&&◌, cond, false, true, None, Option, Some}
 use Rattle.bus.specs.Bits.{has, without}
 use Rattle.bus.specs.Bus.{levels}
-use Rattle.frames.specs.declared.Framing.{Framing}
-use Rattle.frames.specs.declared.Framing.TheVariants.{InFrame, NoFrame}
 use Rattle.registers.specs.Bits.{FS, ICE, MST, TRS}
 use Rattle.iic.specs.Setters.{set_clock_wait, set_command, set_condition, set_control, set_drive, set_frame, set_hold, set_monitor_wait, set_receive_enabled, set_receive_stopped, set_seen, set_setup_wait, set_status, set_synchronized_hold}
-use Rattle.iic.specs.declared.Command.{Command}
-use Rattle.iic.specs.declared.Command.TheVariants.{Commanded, NoCommand}
 use Rattle.iic.specs.declared.Condition.{Condition}
 use Rattle.iic.specs.declared.Condition.TheVariants.{NoCondition, StartHigh, StartHold, StartRelease, StopDetect, StopHigh, StopLow, StopRelease}
 use Rattle.iic.specs.declared.Iic.{Iic}
 use Rattle.iic.specs.declared.Flags.{Flags}
-use Rattle.iic.specs.declared.Given.{Given}
+use Rattle.iic.specs.Answers.{Stepped, fine, refused}
+use Rattle.refusals.specs.declared.Refusal.TheVariants.{Rates as WrongRates}
 use Rattle.registers.specs.Registers.{default_registers}
-use Rattle.iic.specs.declared.EighthFall.TheVariants.{NoFall}
 use Rattle.iic.specs.declared.Hold.{Hold}
 use Rattle.iic.specs.declared.Hold.TheVariants.{NoHold, Receive, Transmit}
-use Rattle.waits.specs.declared.MaybeHalf.TheVariants.{NoHalf}
-use Rattle.waits.specs.declared.MaybeWait.TheVariants.{NoWait}
 use Rattle.rates.specs.declared.Rates.{Rates}
 use Rattle.rates.specs.Rates.{default_rates, rates_hold}
 use Rattle.std.specs.Int.Bits.{bit_or}
+use Rattle.frames.specs.declared.Frame.{Frame}
 
 -- ## `Default` (131), and document 02 (f): with a rate set
 
@@ -44,15 +39,15 @@ initial rates = record {
   registers = default_registers;
   lines = record { drive = levels true true; raw = levels true true; latch = levels true true; filtered = levels true true };
   flags = default_flags;
-  frame = NoFrame;
+  frame = None;
   condition = NoCondition;
-  command = NoCommand;
+  command = None;
   hold = NoHold;
-  eighth_fall = NoFall;
-  clock_wait = NoHalf;
-  monitor_wait = NoHalf;
-  filter_wait = NoWait;
-  setup_wait = NoWait;
+  eighth_fall = None;
+  clock_wait = None;
+  monitor_wait = None;
+  filter_wait = None;
+  setup_wait = None;
   rates = rates;
 }
 
@@ -61,8 +56,8 @@ abbrev pub default_iic : Iic
 default_iic = initial default_rates
 
 -- a set that is refused is in the state all the same, over which the calls are refused too
-abbrev pub with_rates_of : Rates → Given
-with_rates_of rates = record { refusal = cond (rates_hold rates) 0 14; state = initial rates }
+abbrev pub with_rates_of : Rates → Stepped
+with_rates_of rates = cond (rates_hold rates) (fine (initial rates)) (refused WrongRates (initial rates))
 
 -- ## Tests on the registers: `enabled`, `master`, `transmit`, `synchronous` (168 to 179)
 
@@ -85,9 +80,9 @@ awake s = s.flags.gate && enabled s
 
 -- ## Tests on what is absent or present
 
-abbrev pub is_frame : Framing → Bool
-is_frame NoFrame = false
-is_frame (InFrame f) = true
+abbrev pub is_frame : Option Frame → Bool
+is_frame None = false
+is_frame (Some f) = true
 
 abbrev pub framed : Iic → Bool
 framed s = is_frame s.frame
@@ -105,9 +100,9 @@ is_condition StopDetect = true
 abbrev pub conditioned : Iic → Bool
 conditioned s = is_condition s.condition
 
-abbrev pub is_command : Command → Bool
-is_command NoCommand = false
-is_command (Commanded start) = true
+abbrev pub is_command : Option Bool → Bool
+is_command None = false
+is_command (Some start) = true
 
 abbrev pub commanded : Iic → Bool
 commanded s = is_command s.command
@@ -149,10 +144,10 @@ drive_sda b s = set_drive (levels s.lines.drive.scl b) s
 
 -- neither of the two half waits
 abbrev pub unclocked : Iic → Iic
-unclocked s = set_clock_wait NoHalf (set_monitor_wait NoHalf s)
+unclocked s = set_clock_wait None (set_monitor_wait None s)
 
 -- `stop_shifter`: all that is under way stops, and both lines are released (367)
 unfoldable pub stop_shifter_of : Iic → Iic
 stop_shifter_of s =
-    set_drive (levels true true) (set_frame NoFrame (unclocked (set_setup_wait NoWait (set_condition NoCondition
-    (set_command NoCommand (set_hold NoHold (set_synchronized_hold false (set_receive_enabled false (set_receive_stopped false s)))))))))
+    set_drive (levels true true) (set_frame None (unclocked (set_setup_wait None (set_condition NoCondition
+    (set_command None (set_hold NoHold (set_synchronized_hold false (set_receive_enabled false (set_receive_stopped false s)))))))))

@@ -1,7 +1,7 @@
 -- Laws: the steps that ask no clock leave the levels, the rate set and, but for a write of ICCR1, ICE alone; they keep each wait or drop it, and change condition
 -- and hold only where they drop the monitor's wait or the condition goes on. So each keeps every fact on these that allows the half waits to be dropped. Assumes
 -- nothing.
-use Rattle.std.specs.Prelude.{ℕ, ◌+◌, ◌-◌, ◌*◌, ◌/◌, ◌%◌, Bool, ◌&&◌, ◌||◌, ◌≡◌, eqb}
+use Rattle.std.specs.Prelude.{ℕ, ◌+◌, ◌-◌, ◌*◌, ◌/◌, ◌%◌, Bool, ◌&&◌, ◌||◌, ◌≡◌, eqb, None, Option, Some}
 use Rattle.std.proofs.Math.Bool.{true, false, not}
 use Rattle.std.proofs.Math.Path.{refl}
 use Rattle.std.proofs.Common.{sym, ap, ◌∙◌, subst}
@@ -13,8 +13,6 @@ use Rattle.bus.specs.Bus.{is_read, is_start, is_stop}
 use Rattle.bus.specs.declared.Levels.{Levels}
 use Rattle.frames.specs.Parts.{is_data, is_done, sampled, starved}
 use Rattle.frames.specs.declared.Frame.{Frame}
-use Rattle.frames.specs.declared.Framing.{Framing}
-use Rattle.frames.specs.declared.Framing.TheVariants.{InFrame, NoFrame}
 use Rattle.frames.specs.declared.Phase.{Phase}
 use Rattle.frames.specs.declared.Phase.TheVariants.{Ack, Data, Done}
 use Rattle.bus.specs.MaskLaws.{has_kept}
@@ -29,12 +27,10 @@ use Rattle.iic.specs.State.{awake, master, synchronous}
 use Rattle.iic.specs.Writing.{control_set, pull_sda_of, redirected, take_control_of, write_mode_of}
 use Rattle.iic.specs.declared.Condition.{Condition}
 use Rattle.iic.specs.declared.Condition.TheVariants.{NoCondition, StartHigh, StartHold, StartRelease, StopDetect, StopHigh, StopLow, StopRelease}
-use Rattle.iic.specs.declared.EighthFall.TheVariants.{FellAt}
 use Rattle.iic.specs.declared.Hold.{Hold}
 use Rattle.iic.specs.declared.Hold.TheVariants.{NoHold, Receive, Transmit}
 use Rattle.iic.specs.declared.Iic.{Iic}
 use Rattle.time.specs.declared.Time.{Time}
-use Rattle.waits.specs.declared.MaybeHalf.TheVariants.{NoHalf}
 use Rattle.time.specs.Truths.{either}
 use Rattle.iic.specs.Timing.{Dropping, Timing, halved, moved, switched, timing_of}
 
@@ -61,9 +57,9 @@ module _ {P : Timing → Type 0} (drop : Dropping P) where
 
   -- ## The shifter
 
-  load_in_lem : (fr : Framing) (s : Iic) → K s → K (load_in fr s)
-  load_in_lem NoFrame s h = h
-  load_in_lem (InFrame f) s h = either K (can_load s f) h h
+  load_in_lem : (fr : Option Frame) (s : Iic) → K s → K (load_in fr s)
+  load_in_lem None s h = h
+  load_in_lem (Some f) s h = either K (can_load s f) h h
 
   pub load : (s : Iic) → K s → K (load_transmit_of s)
   unfolding load_transmit_of
@@ -82,14 +78,14 @@ module _ {P : Timing → Type 0} (drop : Dropping P) where
   lost b s h =
       either K b
       (same_ice s (without s.registers.control (MST + TRS)) (has_kept (0xff - (MST + TRS)) ICE s.registers.control refl)
-      (halved NoHalf NoHalf NoCondition NoHold (timing_of s)) refl (drop.both NoCondition NoHold (timing_of s) h)) h
+      (halved None None NoCondition NoHold (timing_of s)) refl (drop.both NoCondition NoHold (timing_of s) h)) h
 
   received : (b : ℕ) (s : Iic) → K s → K (received_of b s)
   unfolding received_of overrun_of stored_of
   received b s h =
       either K (synchronous s && has s.registers.status RDRF)
       (same_ice s (without s.registers.control MST) (has_kept (0xff - MST) ICE s.registers.control refl)
-      (halved NoHalf NoHalf s.condition s.hold (timing_of s)) refl (drop.both s.condition s.hold (timing_of s) h)) h
+      (halved None None s.condition s.hold (timing_of s)) refl (drop.both s.condition s.hold (timing_of s) h)) h
 
   acknowledged : (sda : Bool) (s : Iic) → K s → K (acknowledged_of sda s)
   unfolding acknowledged_of
@@ -129,9 +125,9 @@ module _ {P : Timing → Type 0} (drop : Dropping P) where
   rising_at_lem Ack f sda s h = complete f sda s h
   rising_at_lem Done f sda s h = h
 
-  rising_in_lem : (fr : Framing) (sda : Bool) (s : Iic) → K s → K (rising_in fr sda s)
-  rising_in_lem NoFrame sda s h = h
-  rising_in_lem (InFrame f) sda s h = either K (not f.loaded) h (rising_at_lem f.phase f sda s h)
+  rising_in_lem : (fr : Option Frame) (sda : Bool) (s : Iic) → K s → K (rising_in fr sda s)
+  rising_in_lem None sda s h = h
+  rising_in_lem (Some f) sda s h = either K (not f.loaded) h (rising_at_lem f.phase f sda s h)
 
   pub rising : (sda : Bool) (s : Iic) → K s → K (rising_of sda s)
   unfolding rising_of
@@ -189,26 +185,26 @@ module _ {P : Timing → Type 0} (drop : Dropping P) where
 
   -- ## A falling clock
 
-  end_in_lem : (fr : Framing) (s : Iic) → K s → K (end_in fr s)
-  end_in_lem NoFrame s h = h
-  end_in_lem (InFrame f) s h = either K (is_done f.phase) h h
+  end_in_lem : (fr : Option Frame) (s : Iic) → K s → K (end_in fr s)
+  end_in_lem None s h = h
+  end_in_lem (Some f) s h = either K (is_done f.phase) h h
 
   pub end_frame : (s : Iic) → K s → K (end_frame_of s)
   unfolding end_frame_of
   end_frame s h = end_in_lem s.frame s h
 
-  follow_in_lem : (fr : Framing) (s : Iic) → K s → K (follow_in fr s)
-  follow_in_lem NoFrame s h = h
-  follow_in_lem (InFrame f) s h = either K (is_data f.phase) h h
+  follow_in_lem : (fr : Option Frame) (s : Iic) → K s → K (follow_in fr s)
+  follow_in_lem None s h = h
+  follow_in_lem (Some f) s h = either K (is_data f.phase) h h
 
   pub follow : (s : Iic) → K s → K (follow_of s)
   unfolding follow_of
   follow s h = follow_in_lem s.frame s h
 
-  fall_data_in_lem : (fr : Framing) (s : Iic) → K s → K (fall_data_in fr s)
+  fall_data_in_lem : (fr : Option Frame) (s : Iic) → K s → K (fall_data_in fr s)
   unfolding hold_transmit_of
-  fall_data_in_lem NoFrame s h = h
-  fall_data_in_lem (InFrame f) s h =
+  fall_data_in_lem None s h = h
+  fall_data_in_lem (Some f) s h =
       either K (starved f) (either K (synchronous s && master s) (drop.both s.condition s.hold (timing_of s) h) (hold Transmit s h)) h
 
   pub fall_data : (s : Iic) → K s → K (fall_data_of s)
@@ -219,7 +215,7 @@ module _ {P : Timing → Type 0} (drop : Dropping P) where
   unfolding fall_taken_of acknowledge_of hold_receive_of
   fall_taken f now s h =
       either K (not f.transmit && (s.flags.selected || master s) && has s.registers.status RDRF && not s.flags.stale_release)
-      (hold Receive (set_eighth_fall (FellAt now) s) h) h
+      (hold Receive (set_eighth_fall (Some now) s) h) h
 
   pub fall_idle : (s : Iic) → K s → K (fall_idle_of s)
   unfolding fall_idle_of
@@ -231,9 +227,9 @@ module _ {P : Timing → Type 0} (drop : Dropping P) where
   unfolding next_frame_of
   next_frame s h = either K (frame_due s) (begin false s h) h
 
-  show_in_lem : (fr : Framing) (s : Iic) → K s → K (show_in fr s)
-  show_in_lem NoFrame s h = h
-  show_in_lem (InFrame f) s h = h
+  show_in_lem : (fr : Option Frame) (s : Iic) → K s → K (show_in fr s)
+  show_in_lem None s h = h
+  show_in_lem (Some f) s h = h
 
   pub shown : (s : Iic) → K s → K (show_of s)
   unfolding show_of

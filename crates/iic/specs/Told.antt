@@ -1,17 +1,9 @@
 -- Definitions: what a call tells its host, for each case of its answer (document 01, its last sentence: a number and values for each case).
-use Rattle.std.specs.Prelude.{ℕ, Bool, true, false, cond, eqb}
+use Rattle.std.specs.Prelude.{ℕ, Bool, true, false, Err, None, Ok, Option, Result, Some, ⊤}
 use Rattle.bus.specs.declared.Levels.{Levels}
 use Rattle.time.specs.declared.Time.{Time}
-use Rattle.counts.specs.declared.Truth.{Truth}
-use Rattle.counts.specs.declared.Truth.TheVariants.{Is as Told, Refused as Untold}
-use Rattle.clocks.specs.declared.wait.Deadline.{Deadline}
-use Rattle.clocks.specs.declared.wait.Deadline.TheVariants.{Never, At, Refused as Undated}
-use Rattle.iic.specs.declared.Ended.{Ended}
-use Rattle.iic.specs.declared.Ended.TheVariants.{Finished, Refused}
-use Rattle.iic.specs.declared.Byte.{Byte}
-use Rattle.iic.specs.declared.Byte.TheVariants.{Is, Refused as Unread}
-use Rattle.iic.specs.declared.Pins.{Pins}
-use Rattle.iic.specs.declared.Pins.TheVariants.{NoPins, Driven}
+use Rattle.refusals.specs.Refusals.{number_of as number}
+use Rattle.refusals.specs.declared.Refusal.{Refusal}
 
 -- a value of the call's kind, or a refusal by document 01's number
 pub data Answer : Type 0 where
@@ -24,30 +16,26 @@ pub data Answer : Type 0 where
   no_moment : Answer
   moment : Time → Answer
 
-abbrev pub of_end : Ended → Answer
-of_end Finished = nothing
-of_end (Refused n) = refusal n
+abbrev pub of_end : Result ⊤ Refusal → Answer
+of_end (Ok u) = nothing
+of_end (Err n) = refusal (number n)
 
-abbrev pub of_byte : Byte → Answer
-of_byte (Is v) = byte v
-of_byte (Unread n) = refusal n
+abbrev pub of_byte : Result ℕ Refusal → Answer
+of_byte (Ok v) = byte v
+of_byte (Err n) = refusal (number n)
 
-abbrev pub of_truth : Truth → Answer
-of_truth (Told b) = bit b
-of_truth (Untold n) = refusal n
+abbrev pub of_truth : Result Bool Refusal → Answer
+of_truth (Ok b) = bit b
+of_truth (Err n) = refusal (number n)
 
-abbrev pub of_deadline : Deadline → Answer
-of_deadline Never = no_moment
-of_deadline (At t) = moment t
-of_deadline (Undated n) = refusal n
+abbrev pub of_deadline : Result (Option Time) Refusal → Answer
+of_deadline (Ok None) = no_moment
+of_deadline (Ok (Some t)) = moment t
+of_deadline (Err n) = refusal (number n)
 
-abbrev pub of_pins : Pins → Answer
-of_pins NoPins = no_levels
-of_pins (Driven l) = the_levels l
-
--- `validate` answers the number itself, 0 for none
-abbrev pub of_number : ℕ → Answer
-of_number n = cond (eqb n 0) nothing (refusal n)
+abbrev pub of_pins : Option Levels → Answer
+of_pins None = no_levels
+of_pins (Some l) = the_levels l
 
 -- the number of the refusal, 0 for none
 abbrev pub number_of : Answer → ℕ

@@ -4,46 +4,36 @@
 use Rattle.clocks.specs.System.{system_after}
 use Rattle.clocks.specs.declared.Clocks.{Clocks}
 use Rattle.domain.specs.declared.Domain.{Domain}
-use Rattle.clocks.specs.declared.wait.NewWait.TheVariants as wait
-use Rattle.clocks.specs.declared.wait.NewWait.{NewWait}
-use Rattle.iic.specs.Answers.{fine, refused}
+use Rattle.iic.specs.Answers.{Stepped, fine, refused}
 use Rattle.iic.specs.Setters.{set_filter_wait, set_setup_wait, set_clock_wait, set_monitor_wait}
 use Rattle.iic.specs.declared.Iic.{Iic}
-use Rattle.iic.specs.declared.Stepped.{Stepped}
 use Rattle.iic.specs.Filter.{unsettled}
 use Rattle.iic.specs.State.{awake}
 use Rattle.time.specs.declared.Time.{Time}
 use Rattle.waits.specs.Ends.{is_wait, turn_half, turn_wait}
 use Rattle.waits.specs.Half.{half_after}
 use Rattle.rates.specs.Rates.{monitor_halves, period_of, setup_cycles}
-use Rattle.waits.specs.declared.MaybeHalf.TheVariants.{Half, NoHalf}
-use Rattle.waits.specs.declared.MaybeHalf.{MaybeHalf}
-use Rattle.waits.specs.declared.MaybeWait.TheVariants.{NoWait, Waiting}
-use Rattle.waits.specs.declared.MaybeWait.{MaybeWait}
-use Rattle.waits.specs.declared.NewHalf.TheVariants as half
-use Rattle.waits.specs.declared.NewHalf.{NewHalf}
-use Rattle.std.specs.Prelude.{Bool, ◌&&◌, cond, not}
+use Rattle.std.specs.Prelude.{Bool, ◌&&◌, cond, not, Err, None, Ok, Option, Result, Some}
+use Rattle.clocks.specs.declared.wait.ClockWait.{ClockWait}
+use Rattle.refusals.specs.declared.Refusal.{Refusal}
+use Rattle.waits.specs.declared.HalfWait.{HalfWait}
 
 -- ## Starting: a wait that was made is the state's, a refused one leaves the state at that point
 
-abbrev pub half_from : (MaybeHalf → Iic → Iic) → NewHalf → Iic → Stepped
-half_from set (half.Made w) s = fine (set (Half w) s)
-half_from set (half.Refused n) s = refused n s
+abbrev pub wait_from : {W : Type 0} → (Option W → Iic → Iic) → Result W Refusal → Iic → Stepped
+wait_from set (Ok w) s = fine (set (Some w) s)
+wait_from set (Err n) s = refused n s
 
-abbrev pub wait_from : (MaybeWait → Iic → Iic) → NewWait → Iic → Stepped
-wait_from set (wait.Made w) s = fine (set (Waiting w) s)
-wait_from set (wait.Refused n) s = refused n s
+abbrev pub clock_from : Result HalfWait Refusal → Iic → Stepped
+clock_from w s = wait_from set_clock_wait w s
 
-abbrev pub clock_from : NewHalf → Iic → Stepped
-clock_from w s = half_from set_clock_wait w s
+abbrev pub monitor_from : Result HalfWait Refusal → Iic → Stepped
+monitor_from w s = wait_from set_monitor_wait w s
 
-abbrev pub monitor_from : NewHalf → Iic → Stepped
-monitor_from w s = half_from set_monitor_wait w s
-
-abbrev pub filter_from : NewWait → Iic → Stepped
+abbrev pub filter_from : Result ClockWait Refusal → Iic → Stepped
 filter_from w s = wait_from set_filter_wait w s
 
-abbrev pub setup_from : NewWait → Iic → Stepped
+abbrev pub setup_from : Result ClockWait Refusal → Iic → Stepped
 setup_from w s = wait_from set_setup_wait w s
 
 -- half a clock from now on (552, 555, 775, 808, 850, 864, 879)
@@ -71,24 +61,21 @@ schedule_filter_of now system s = cond (wants_filter s) (start_filter_of now sys
 
 -- ## `set_gate`, and a stretched clock: waits resume (true) and pause (false)
 
-abbrev pub turn_half_in : (NewHalf → Iic → Stepped) → Bool → Time → Domain → MaybeHalf → Iic → Stepped
-turn_half_in from gate now system NoHalf s = fine s
-turn_half_in from gate now system (Half w) s = from (turn_half gate now system w) s
-
-abbrev pub turn_wait_in : (NewWait → Iic → Stepped) → Bool → Time → Clocks → MaybeWait → Iic → Stepped
-turn_wait_in from gate now k NoWait s = fine s
-turn_wait_in from gate now k (Waiting w) s = from (turn_wait gate now k w) s
+-- a step of a wait, where there is one
+abbrev pub at_wait : {W : Type 0} → Option W → (W → Iic → Stepped) → Iic → Stepped
+at_wait None f s = fine s
+at_wait (Some w) f s = f w s
 
 -- the clock's (385 to 394), and while SCL is stretched (397, 497, 546)
 unfoldable pub turn_clock_of : Bool → Time → Domain → Iic → Stepped
-turn_clock_of gate now system s = turn_half_in clock_from gate now system s.clock_wait s
+turn_clock_of gate now system s = at_wait s.clock_wait (λ w. clock_from (turn_half gate now system w)) s
 
 unfoldable pub turn_monitor_of : Bool → Time → Domain → Iic → Stepped
-turn_monitor_of gate now system s = turn_half_in monitor_from gate now system s.monitor_wait s
+turn_monitor_of gate now system s = at_wait s.monitor_wait (λ w. monitor_from (turn_half gate now system w)) s
 
 -- the filter's, then the setup's, by their taps (400 to 409)
 unfoldable pub turn_filter_of : Bool → Time → Clocks → Iic → Stepped
-turn_filter_of gate now k s = turn_wait_in filter_from gate now k s.filter_wait s
+turn_filter_of gate now k s = at_wait s.filter_wait (λ w. filter_from (turn_wait gate now k w)) s
 
 unfoldable pub turn_setup_of : Bool → Time → Clocks → Iic → Stepped
-turn_setup_of gate now k s = turn_wait_in setup_from gate now k s.setup_wait s
+turn_setup_of gate now k s = at_wait s.setup_wait (λ w. setup_from (turn_wait gate now k w)) s

@@ -1,24 +1,21 @@
 -- Definitions: the registers as the host writes them (document 01, Registers and steps; `write`; numbers in brackets are lines of iic.rs),
 -- with what follows in time.
-use Rattle.std.specs.Prelude.{◌+◌, ℕ, eqb, Bool, ◌&&◌, cond, false, not, true}
+use Rattle.std.specs.Prelude.{◌+◌, ℕ, eqb, Bool, ◌&&◌, cond, false, not, true, None, Some}
 use Rattle.bus.specs.Bits.{flag, has, without}
 use Rattle.frames.specs.Mirror.{ordered}
 use Rattle.domain.specs.declared.Domain.{Domain}
 use Rattle.frames.specs.Parts.{is_done_in, recount_in, redirect_in}
-use Rattle.iic.specs.Answers.{and_then, fine}
+use Rattle.iic.specs.Answers.{Stepped, and_then, fine}
 use Rattle.registers.specs.Bits.{ACKBR, ACKE, BBSY, BC, BCWP, FS, IICRST, MLS, MST, RCVD, SCP, SDAO, SDAOP, TDRE, TEND, TRS, WAIT}
 use Rattle.iic.specs.Kick.{kick_of, release_hold_of}
 use Rattle.iic.specs.Setters.{set_address, set_busy, set_command, set_control, set_count, set_enable, set_filter_wait, set_frame, set_mode, set_receive_enabled, set_receive_stopped, set_reset, set_seen, set_status, set_tdr}
 use Rattle.iic.specs.Shift.{load_transmit_of}
 use Rattle.iic.specs.State.{clear_flags, drive_sda, enabled, framed, is_transmit_hold, master, raise, stop_shifter_of, synchronous, transmits}
 use Rattle.iic.specs.Waiting.{schedule_filter_of}
-use Rattle.iic.specs.declared.Command.TheVariants.{Commanded}
 use Rattle.iic.specs.declared.Iic.{Iic}
 use Rattle.registers.specs.declared.Register.{Register}
 use Rattle.registers.specs.declared.Register.TheVariants.{ICCR1, ICCR2, ICDRR, ICDRT, ICIER, ICMR, ICSR, SAR}
-use Rattle.iic.specs.declared.Stepped.{Stepped}
 use Rattle.time.specs.declared.Time.{Time}
-use Rattle.waits.specs.declared.MaybeWait.TheVariants.{NoWait}
 use Rattle.std.specs.Int.Bits.{bit_and, bit_or}
 
 -- ## `write`: ICCR1
@@ -50,7 +47,7 @@ abbrev pub control_taken : Time → Domain → Iic → Stepped
 control_taken now system s =
     cond (enabled s)
     (and_then (and_then (schedule_filter_of now system s) (λ u. fine (stop_receive_of u))) (kick_of now system))
-    (fine (set_filter_wait NoWait (stop_shifter_of s)))
+    (fine (set_filter_wait None (stop_shifter_of s)))
 
 -- ICCR1 (263)
 unfoldable pub write_control_of : ℕ → Time → Domain → Iic → Stepped
@@ -82,7 +79,7 @@ takes_command value s = gives_command value s && not (early_stop value s)
 -- a start or a stop is asked for, or not (318)
 abbrev pub command_from : ℕ → Time → Domain → Iic → Stepped
 command_from value now system s =
-    cond (takes_command value s) (kick_of now system (set_command (Commanded (has value BBSY)) s)) (fine s)
+    cond (takes_command value s) (kick_of now system (set_command (Some (has value BBSY)) s)) (fine s)
 
 -- outside the reset: SDA, then a start or a stop (306)
 unfoldable pub out_of_reset_of : ℕ → Time → Domain → Iic → Stepped

@@ -1,39 +1,60 @@
-// The eleven calls of the peripheral's host, each with its answer and, where it may change the state, the next one.
+// The eleven calls of the peripheral's host, each with its answer and, where it may change the state, the next one. Time and clocks are operands of
+// their own in document 01, so they go as such through calls and steps.
 ghost use Rattle.std.specs.Prelude.{◌≡◌};
-ghost use Rattle.iic.specs.Answers.{and_then};
+ghost use Rattle.iic.specs.Answers.{Stepped, guarded};
+ghost use Rattle.iic.specs.declared.Iic.{Iic};
 ghost use Rattle.iic.specs.Calls.{advance_of, deadline_of, ends_of, guard_by, input_pins_of, interrupt_with_enable_of, keep_stretched_of, peek_of, pins_of, read_of, set_gate_of, turn_gate_of, turn_waits_of, validate_of, waits_refusal, write_of};
 
-use super::{Ends, Iic, Noticed, Pins, ReadOut, Stepped};
+use super::{Answered, Deadline, Ends, Iic, Stepped};
+use bus::Levels;
 use clocks::Clocks;
-use clocks::wait::Deadline;
 use domain::Domain;
+use refusals::Refusal;
 use registers::Register;
 use registers::bits::{AL, FS, NACKF, NAKIE, RDRF, STOP, TDRE, TEND};
 use time::Time;
+use waits::ends::{tap_refusal, wait_end};
 
 impl Iic {
-    // 1 where a clock of the set holds a zero, then 14 for the rate set, then 9 and 10, stand before a call; 0 for none.
-    pub(crate) fn guard(self, zero: bool) -> u8
+    // A zero in a clock of the set, then the rate set, the ranges and the progress of a frame stand before a call.
+    pub(crate) fn guard(self, zero: bool) -> Result<(), Refusal>
         ensures { result ≡ guard_by zero self }
     {
-        let rates = self.rates;
-        let registers = self.registers;
-        refusals::before_call(zero, rates.hold(), registers.ranges_hold(), self.progress())
+        refusals::before_call(
+            zero,
+            self.rates.hold(),
+            self.registers.ranges_hold(),
+            self.progress(),
+        )
+    }
+
+    // A call, unless something stands before it.
+    pub(crate) fn guarded<F: FnOnce(Iic) -> Stepped>(self, zero: bool, call: F) -> Stepped
+        requires { F.IsAlwaysCallable call }
+        ensures { (f : Iic → Stepped) → ((s : Iic) (r : Stepped) → F.post call s r → r ≡ f s) → result ≡ guarded (guard_by zero self) self (f self) }
+    {
+        match self.guard(zero) {
+            Ok(()) => call(self),
+            Err(refusal) => self.refused(refusal),
+        }
     }
 
     // What a register shows.
+    #[tactic(auto, unfolding(crate::specs::Calls::peek_of))]
     pub fn peek(self, address: u16) -> u8
         ensures { result ≡ peek_of self address }
     {
         self.peek_at(Register::at(address))
     }
 
-    pub fn read(mut self, address: u16, now: Time, clocks: Clocks) -> ReadOut
+    #[tactic(auto, unfolding(crate::specs::Calls::read_of))]
+    pub fn read(mut self, address: u16, now: Time, clocks: Clocks) -> Answered<u8>
         ensures { result ≡ read_of self address now clocks }
     {
         self.read_by(clocks.has_zero(), address, now, clocks.system)
     }
 
+    #[tactic(auto, unfolding(crate::specs::Calls::write_of))]
     pub fn write(mut self, address: u16, value: u8, now: Time, clocks: Clocks) -> Stepped
         ensures { result ≡ write_of self address value now clocks }
     {
@@ -41,77 +62,84 @@ impl Iic {
     }
 
     // The levels of the lines, as given.
-    pub fn input_pins(mut self, scl: bool, sda: bool, now: Time, clocks: Clocks) -> Noticed
+    #[tactic(auto, unfolding(crate::specs::Calls::input_pins_of))]
+    pub fn input_pins(mut self, scl: bool, sda: bool, now: Time, clocks: Clocks) -> Answered<bool>
         ensures { result ≡ input_pins_of self scl sda now clocks }
     {
         self.input_pins_by(clocks.has_zero(), scl, sda, now, clocks.system)
     }
 
     // What the peripheral drives.
-    pub fn pins(self) -> Pins
+    pub fn pins(self) -> Option<Levels>
         ensures { result ≡ pins_of self }
     {
-        let lines = self.lines;
-        let drive = lines.drive;
         if self.enabled() {
-            return Pins::Driven(drive);
+            return Some(self.lines.drive);
         }
-        Pins::NoPins
+        None
+    }
+
+    // A wait that a stretched clock paused stays paused.
+    #[tactic(auto, unfolding(crate::specs::Calls::keep_stretched_of))]
+    fn keep_stretched(self, gate: bool, now: Time, system: Domain) -> Stepped
+        ensures { result ≡ keep_stretched_of gate now system self }
+    {
+        if gate & self.flags.synchronized_hold {
+            return self.turn_clock(false, now, system);
+        }
+        self.fine()
     }
 
     // Clock, monitor, filter and setup resume or pause.
+    #[tactic(auto, unfolding(crate::specs::Calls::turn_waits_of))]
     fn turn_waits(self, gate: bool, now: Time, clocks: Clocks) -> Stepped
         ensures { result ≡ turn_waits_of gate now clocks self }
     {
-        let mut next = self.fine();
-        next = next.turn_clock(gate, now, clocks.system);
-        next = next.turn_monitor(gate, now, clocks.system);
-        next = next.keep_stretched(gate, now, clocks.system);
-        next = next.turn_filter(gate, now, clocks);
-        next.turn_setup(gate, now, clocks)
+        self.turn_clock(gate, now, clocks.system)
+            .and_then(|s| s.turn_monitor(gate, now, clocks.system))
+            .and_then(|s| s.keep_stretched(gate, now, clocks.system))
+            .and_then(|s| s.turn_filter(gate, now, clocks))
+            .and_then(|s| s.turn_setup(gate, now, clocks))
     }
 
+    #[tactic(auto, unfolding(crate::specs::Calls::turn_gate_of))]
     fn turn_gate(mut self, gate: bool, now: Time, clocks: Clocks) -> Stepped
         ensures { result ≡ turn_gate_of gate now clocks self }
     {
-        let same = self.flags.gate == gate;
-        if same {
+        if self.flags.gate == gate {
             return self.fine();
         }
         self.flags.gate = gate;
-        let mut next = self.turn_waits(gate, now, clocks);
+        let next = self.turn_waits(gate, now, clocks);
         if gate {
-            next = next.schedule_filter(now, clocks.system);
-            next = next.kick(now, clocks.system);
+            return next
+                .and_then(|s| s.schedule_filter(now, clocks.system))
+                .and_then(|s| s.kick(now, clocks.system));
         }
         next
     }
 
     // Whether the peripheral's clock runs.
+    #[tactic(auto, unfolding(crate::specs::Calls::set_gate_of))]
     pub fn set_gate(mut self, gate: bool, now: Time, clocks: Clocks) -> Stepped
         ensures { result ≡ set_gate_of self gate now clocks }
     {
-        let refusal = self.guard(clocks.has_zero());
-        let stands = refusal != 0;
-        if stands {
-            return self.refused(refusal);
-        }
-        self.turn_gate(gate, now, clocks)
+        self.guarded(clocks.has_zero(), |s| s.turn_gate(gate, now, clocks))
     }
 
-    // When the waits end that may be on any tap.
+    // When the waits end that may be on any tap; never inlined, since most visits go over the system clock alone.
+    #[inline(never)]
     fn ends(self, clocks: Clocks) -> Ends
         ensures { result ≡ ends_of self clocks }
     {
-        let filter_wait = self.filter_wait;
-        let setup_wait = self.setup_wait;
         Ends {
-            filter: filter_wait.end(clocks),
-            setup: setup_wait.end(clocks),
+            filter: wait_end(self.filter_wait, clocks),
+            setup: wait_end(self.setup_wait, clocks),
         }
     }
 
     // The time of the next visit.
+    #[tactic(auto, unfolding(crate::specs::Calls::deadline_of))]
     pub fn deadline(self, clocks: Clocks) -> Deadline
         ensures { result ≡ deadline_of self clocks }
     {
@@ -119,6 +147,7 @@ impl Iic {
     }
 
     // A visit: waits whose time is now fire.
+    #[tactic(auto, unfolding(crate::specs::Calls::advance_of))]
     pub fn advance(mut self, now: Time, clocks: Clocks) -> Stepped
         ensures { result ≡ advance_of self now clocks }
     {
@@ -145,37 +174,27 @@ impl Iic {
             | ((enable & NAKIE != 0) & (self.registers.status & mask != 0))
     }
 
-    // 0, or the number of the refusal of a state.
-    pub fn validate(self, now: Time) -> u8
+    // Whether a state is refused.
+    #[tactic(auto, unfolding(crate::specs::Calls::validate_of))]
+    pub fn validate(self, now: Time) -> Result<(), Refusal>
         ensures { result ≡ validate_of self now }
     {
-        let rates = self.rates;
-        let eighth_fall = self.eighth_fall;
-        let registers = self.registers;
-        let sound = registers.ranges_hold() & eighth_fall.fell_by(now);
-        refusals::of_state(rates.hold(), sound, self.progress(), self.waits_refusal())
+        let sound = self.registers.ranges_hold() & self.fell_by(now);
+        refusals::of_state(
+            self.rates.hold(),
+            sound,
+            self.progress(),
+            self.waits_refusal(),
+        )
     }
 
-    // 0, or refusal 11 or 12.
-    fn waits_refusal(self) -> u8
+    // A tap with the divider 0, or a half count near the top.
+    #[tactic(auto, unfolding(crate::specs::Calls::waits_refusal))]
+    fn waits_refusal(self) -> Result<(), Refusal>
         ensures { result ≡ waits_refusal self }
     {
-        let filter_wait = self.filter_wait;
-        let setup_wait = self.setup_wait;
-        let rest = refusals::first_of(setup_wait.tap_refusal(), self.halves_refusal());
-        refusals::first_of(filter_wait.tap_refusal(), rest)
-    }
-}
-
-impl Stepped {
-    // A wait that a stretched clock paused stays paused.
-    fn keep_stretched(mut self, gate: bool, now: Time, system: Domain) -> Stepped
-        ensures { result ≡ and_then self (keep_stretched_of gate now system) }
-    {
-        let stays = gate & self.state.flags.synchronized_hold;
-        if stays {
-            self = self.turn_clock(false, now, system);
-        }
-        self
+        tap_refusal(self.filter_wait)?;
+        tap_refusal(self.setup_wait)?;
+        self.halves_refusal()
     }
 }

@@ -2,37 +2,35 @@
 ghost use Rattle.std.specs.Prelude.{◌≡◌};
 ghost use Rattle.iic.specs.Checks.{fell_by, halves_refusal, progress_holds};
 
-use super::{EighthFall, Iic};
+use super::Iic;
+use frames::parts::progress_holds;
+use refusals::Refusal;
 use time::Time;
-
-impl EighthFall {
-    // Not later than now.
-    pub(crate) fn fell_by(self, now: Time) -> bool
-        ensures { result ≡ fell_by self now }
-    {
-        match self {
-            EighthFall::NoFall => true,
-            EighthFall::FellAt(t) => !now.before(t),
-        }
-    }
-}
+use waits::ends::is_short;
 
 impl Iic {
+    // An eighth fall isn't later than now.
+    pub(crate) fn fell_by(self, now: Time) -> bool
+        ensures { result ≡ fell_by self.eighth_fall now }
+    {
+        self.eighth_fall.is_none_or(|t| !now.before(t))
+    }
+
     // A frame has as many bits to go as its phase allows.
     pub(crate) fn progress(self) -> bool
         ensures { result ≡ progress_holds self }
     {
-        let frame = self.frame;
-        frame.progress_holds()
+        progress_holds(self.frame)
     }
 
-    // 0, or refusal 12 for a half count near the top.
-    pub(crate) fn halves_refusal(self) -> u8
+    // A half count near the top is refused.
+    pub(crate) fn halves_refusal(self) -> Result<(), Refusal>
         ensures { result ≡ halves_refusal self }
     {
-        let clock_wait = self.clock_wait;
-        let monitor_wait = self.monitor_wait;
-        let short = clock_wait.is_short() & monitor_wait.is_short();
-        if short { 0 } else { 12 }
+        if is_short(self.clock_wait) & is_short(self.monitor_wait) {
+            Ok(())
+        } else {
+            Err(Refusal::HalfCount)
+        }
     }
 }

@@ -1,12 +1,10 @@
 // Starts and stops: those of the bus, and those that the master makes.
 ghost use Rattle.std.specs.Prelude.{◌≡◌};
-ghost use Rattle.iic.specs.Conditions.{at_stop, begun_of, bus_edge_of, bus_start_of, bus_stop_of, clocked_of, condition_high, first_condition, is_start_hold, raised_of, release_sda_of};
+ghost use Rattle.iic.specs.Conditions.{at_stop, begun_of, bus_edge_of, bus_start_of, bus_stop_of, clocked_of, condition_high, first_condition, raised_of, release_sda_of};
 
-use super::{Command, Condition, Hold, Iic};
+use super::{Condition, Hold, Iic};
 use bus::Levels;
-use frames::Framing;
 use registers::bits::{MST, STOP};
-use waits::MaybeHalf;
 
 fn first_condition(start: bool) -> Condition
     ensures { result ≡ first_condition start }
@@ -18,20 +16,9 @@ fn first_condition(start: bool) -> Condition
     }
 }
 
-impl Condition {
-    // SCL is about to fall for a start.
-    pub(crate) fn is_start_hold(self) -> bool
-        ensures { result ≡ is_start_hold self }
-    {
-        let Condition::StartHold = self else {
-            return false;
-        };
-        true
-    }
-}
-
 impl Iic {
     // The state as a start or stop condition begins.
+    #[tactic(auto, unfolding(crate::specs::Conditions::begun_of))]
     pub(crate) fn begun(mut self, start: bool) -> Iic
         ensures { result ≡ begun_of start self }
     {
@@ -39,11 +26,11 @@ impl Iic {
         self.lines.drive.sda = start;
         self.flags.synchronized_hold = false;
         Iic {
-            frame: Framing::NoFrame,
+            frame: None,
             condition: first_condition(start),
-            command: Command::NoCommand,
+            command: None,
             hold: Hold::NoHold,
-            monitor_wait: MaybeHalf::NoHalf,
+            monitor_wait: None,
             ..self
         }
     }
@@ -57,16 +44,17 @@ impl Iic {
         self.flags.receive_enabled = false;
         self.flags.receive_stopped = false;
         Iic {
-            frame: Framing::NoFrame,
+            frame: None,
             condition: Condition::NoCondition,
             hold: Hold::NoHold,
-            clock_wait: MaybeHalf::NoHalf,
-            monitor_wait: MaybeHalf::NoHalf,
+            clock_wait: None,
+            monitor_wait: None,
             ..self
         }
     }
 
     // SDA is released, except in reset.
+    #[tactic(auto, unfolding(crate::specs::Conditions::release_sda_of))]
     fn release_sda(mut self) -> Iic
         ensures { result ≡ release_sda_of self }
     {
@@ -77,6 +65,7 @@ impl Iic {
         self
     }
 
+    #[tactic(auto, unfolding(crate::specs::Conditions::bus_stop_of))]
     fn bus_stop(self) -> Iic
         ensures { result ≡ bus_stop_of self }
     {
@@ -101,28 +90,28 @@ impl Iic {
     }
 
     // A condition under way goes a stage on as the clock's wait ends.
+    #[tactic(auto, unfolding(crate::specs::Conditions::clocked_of))]
     pub(crate) fn clock_condition(mut self) -> Iic
         ensures { result ≡ clocked_of self }
     {
-        let condition = self.condition;
-        match condition {
+        match self.condition {
             Condition::StartRelease => {
                 self.lines.drive.scl = true;
-                self = self.with_condition(Condition::StartHigh);
+                self.condition = Condition::StartHigh;
             }
             Condition::StartHold => {
                 self.lines.drive.scl = false;
-                self = self.with_condition(Condition::NoCondition);
+                self.condition = Condition::NoCondition;
             }
             Condition::StopLow => {
                 self.lines.drive.scl = true;
-                self = self.with_condition(Condition::StopHigh);
+                self.condition = Condition::StopHigh;
             }
             Condition::StopRelease => {
                 self.lines.drive.sda = true;
                 self.flags.receive_enabled = false;
-                self = self.with_frame(Framing::NoFrame);
-                self = self.with_condition(Condition::StopDetect);
+                self.frame = None;
+                self.condition = Condition::StopDetect;
             }
             _ => {}
         }
@@ -133,33 +122,25 @@ impl Iic {
     pub(crate) fn condition_high(self) -> bool
         ensures { result ≡ condition_high self }
     {
-        let condition = self.condition;
-        let scl = self.lines.filtered.scl;
-        match condition {
-            Condition::StartHigh => {
-                return scl & self.lines.filtered.sda;
-            }
-            Condition::StopHigh => {
-                return scl;
-            }
-            _ => {
-                return false;
-            }
+        match self.condition {
+            Condition::StartHigh => self.lines.filtered.scl & self.lines.filtered.sda,
+            Condition::StopHigh => self.lines.filtered.scl,
+            _ => false,
         }
     }
 
     // What follows once they are: SDA falls for a start, or a stop waits to release it.
+    #[tactic(auto, unfolding(crate::specs::Conditions::raised_of))]
     pub(crate) fn raise_condition(mut self) -> Iic
         ensures { result ≡ raised_of self }
     {
-        let condition = self.condition;
-        match condition {
+        match self.condition {
             Condition::StartHigh => {
                 self.lines.drive.sda = false;
-                self = self.with_condition(Condition::StartHold);
+                self.condition = Condition::StartHold;
             }
             Condition::StopHigh => {
-                self = self.with_condition(Condition::StopRelease);
+                self.condition = Condition::StopRelease;
             }
             _ => {}
         }
@@ -167,14 +148,14 @@ impl Iic {
     }
 
     // A start or a stop of the bus, outside synchronous mode.
+    #[tactic(auto, unfolding(crate::specs::Conditions::bus_edge_of))]
     pub(crate) fn bus_edge(mut self, old: Levels) -> Iic
         ensures { result ≡ bus_edge_of old self }
     {
         if self.synchronous() {
             return self;
         }
-        let lines = self.lines;
-        let new = lines.filtered;
+        let new = self.lines.filtered;
         if bus::is_stop(old, new) {
             self = self.bus_stop();
         } else if bus::is_start(old, new) {

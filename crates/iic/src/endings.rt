@@ -1,62 +1,58 @@
 // How steps end.
 ghost use Rattle.std.specs.Prelude.{◌≡◌};
-ghost use Rattle.iic.specs.Answers.{fine, refused, byte_of, truth_of};
+ghost use Rattle.iic.specs.Answers.{Stepped, and_then, answered, fine, refused};
 ghost use Rattle.iic.specs.Inside.{went_on};
+ghost use Rattle.iic.specs.declared.Iic.{Iic};
 
-use super::{Byte, Ended, Iic, Stepped};
-use counts::Truth;
+use super::{Answered, Iic, Stepped};
+use refusals::Refusal;
 
 impl Iic {
     pub(crate) fn fine(self) -> Stepped
         ensures { result ≡ fine self }
     {
-        Stepped {
-            ended: Ended::Finished,
+        Answered {
+            answer: Ok(()),
             state: self,
         }
     }
 
-    pub(crate) fn refused(self, refusal: u8) -> Stepped
+    pub(crate) fn refused(self, refusal: Refusal) -> Stepped
         ensures { result ≡ refused refusal self }
     {
-        Stepped {
-            ended: Ended::Refused(refusal),
+        Answered {
+            answer: Err(refusal),
             state: self,
         }
     }
 }
 
-impl Ended {
-    // The answer of `read`.
-    pub(crate) fn byte(self, value: u8) -> Byte
-        ensures { result ≡ byte_of self value }
-    {
-        match self {
-            Ended::Finished => Byte::Is(value),
-            Ended::Refused(n) => Byte::Refused(n),
-        }
-    }
-
-    // The answer of `input_pins`.
-    pub(crate) fn truth(self, value: bool) -> Truth
-        ensures { result ≡ truth_of self value }
-    {
-        match self {
-            Ended::Finished => Truth::Is(value),
-            Ended::Refused(n) => Truth::Refused(n),
-        }
-    }
-}
-
-impl Stepped {
-    // Whether the next step is taken: the Rust's `?`.
+impl Answered<()> {
+    // Whether the next step is taken.
     pub(crate) fn went_on(self) -> bool
-        ensures { result ≡ went_on self.ended }
+        ensures { result ≡ went_on self.answer }
     {
-        let ended = self.ended;
-        match ended {
-            Ended::Finished => true,
-            Ended::Refused(_) => false,
+        self.answer.is_ok()
+    }
+
+    // The next step, where this one went through: the Rust's `?`.
+    pub(crate) fn and_then<F: FnOnce(Iic) -> Stepped>(self, step: F) -> Stepped
+        requires { F.IsAlwaysCallable step }
+        ensures { (f : Iic → Stepped) → ((s : Iic) (r : Stepped) → F.post step s r → r ≡ f s) → result ≡ and_then self f }
+    {
+        match self.answer {
+            Ok(()) => step(self.state),
+            Err(_) => self,
+        }
+    }
+
+    // A call's answer where its step went through.
+    pub(crate) fn answering<A: Copy>(self, value: A) -> Answered<A>
+        ensures { result ≡ answered self value }
+    {
+        Answered {
+            answer: self.answer.map(|_| value),
+            state: self.state,
         }
     }
 }

@@ -19,16 +19,17 @@ pub mod waiting;
 pub mod writing;
 
 use bus::Levels;
-use clocks::wait::Deadline;
-use counts::Truth;
-use frames::Framing;
+use clocks::wait::ClockWait;
+use frames::Frame;
 use rates::Rates;
+use refusals::Refusal;
 use registers::Registers;
 use time::Time;
-use waits::{MaybeHalf, MaybeWait};
+use waits::HalfWait;
 
-// A start or a stop that the master is about.
-#[derive(Clone, Copy)]
+// A start or a stop that the master is about; none is a stage among the others, since as an Option each arm on a stage would be longer
+// (`Some(Condition::StartHigh)`) and say no more.
+#[derive(Clone, Copy, Debug, PartialEq, Eq)]
 pub enum Condition {
     NoCondition,
     StartRelease,
@@ -40,29 +41,16 @@ pub enum Condition {
     StopDetect,
 }
 
-// A start (true) or a stop (false) that was asked for.
-#[derive(Clone, Copy)]
-pub enum Command {
-    NoCommand,
-    Commanded(bool),
-}
-
-// SCL held low until a register is served.
-#[derive(Clone, Copy)]
+// SCL held low until a register is served, or not; as an Option of the two registers it would be written `Some(Hold::Transmit)` and say no more.
+#[derive(Clone, Copy, Debug, PartialEq, Eq)]
 pub enum Hold {
     NoHold,
     Transmit,
     Receive,
 }
 
-#[derive(Clone, Copy)]
-pub enum EighthFall {
-    NoFall,
-    FellAt(Time),
-}
-
 // What the peripheral drives (true releases the line), the levels as given, and those that the filter saw and let through.
-#[derive(Clone, Copy)]
+#[derive(Clone, Copy, Debug, PartialEq, Eq)]
 pub struct Lines {
     pub drive: Levels,
     pub raw: Levels,
@@ -70,7 +58,7 @@ pub struct Lines {
     pub filtered: Levels,
 }
 
-#[derive(Clone, Copy)]
+#[derive(Clone, Copy, Debug, PartialEq, Eq)]
 pub struct Flags {
     pub busy: bool,
     pub reset: bool,
@@ -84,36 +72,26 @@ pub struct Flags {
 }
 
 // The peripheral. The rate set is given when it is made.
-#[derive(Clone, Copy)]
+#[derive(Clone, Copy, Debug, PartialEq, Eq)]
 pub struct Iic {
     pub registers: Registers,
     pub lines: Lines,
     pub flags: Flags,
-    pub frame: Framing,
+    pub frame: Option<Frame>,
     pub condition: Condition,
-    pub command: Command,
+    // A start (true) or a stop (false) that was asked for.
+    pub command: Option<bool>,
     pub hold: Hold,
-    pub eighth_fall: EighthFall,
-    pub clock_wait: MaybeHalf,
-    pub monitor_wait: MaybeHalf,
-    pub filter_wait: MaybeWait,
-    pub setup_wait: MaybeWait,
+    pub eighth_fall: Option<Time>,
+    pub clock_wait: Option<HalfWait>,
+    pub monitor_wait: Option<HalfWait>,
+    pub filter_wait: Option<ClockWait>,
+    pub setup_wait: Option<ClockWait>,
     pub rates: Rates,
 }
 
-// The number of the refusal of a rate set, 0 for none, and the state that has the set.
-#[derive(Clone, Copy)]
-pub struct Given {
-    pub refusal: u8,
-    pub state: Iic,
-}
-
-// How a step ended: refused by its number, or not.
-#[derive(Clone, Copy)]
-pub enum Ended {
-    Finished,
-    Refused(u8),
-}
+// The time at which something ends, none where nothing does.
+pub type Deadline = Result<Option<Time>, Refusal>;
 
 // When the waits of the filter and of the setup end, which may be on any tap.
 #[derive(Clone, Copy)]
@@ -122,36 +100,13 @@ pub struct Ends {
     pub setup: Deadline,
 }
 
-// How a step ended, and the state at that point.
+// What a call answers, and the state at that point: the calls are by value (document 01) and a refusal rolls nothing back, so the state stands
+// beside the answer and not in it.
 #[derive(Clone, Copy)]
-pub struct Stepped {
-    pub ended: Ended,
+pub struct Answered<A> {
+    pub answer: Result<A, Refusal>,
     pub state: Iic,
 }
 
-// A register's byte, or the number of a refusal.
-#[derive(Clone, Copy)]
-pub enum Byte {
-    Is(u8),
-    Refused(u8),
-}
-
-#[derive(Clone, Copy)]
-pub struct ReadOut {
-    pub answer: Byte,
-    pub state: Iic,
-}
-
-// Whether a change of levels reaches the peripheral, or the number of a refusal.
-#[derive(Clone, Copy)]
-pub struct Noticed {
-    pub answer: Truth,
-    pub state: Iic,
-}
-
-// What the peripheral drives, none while it is disabled.
-#[derive(Clone, Copy)]
-pub enum Pins {
-    NoPins,
-    Driven(Levels),
-}
+// A step of the peripheral, refused or not.
+pub type Stepped = Answered<()>;

@@ -4,39 +4,25 @@ ghost use Rattle.std.specs.Prelude.{◌≡◌};
 ghost use Rattle.iic.specs.Calls.{deadline_by, input_pins_by, read_by, take_pins_of, write_by};
 ghost use Rattle.iic.specs.Over.{advance_by, advance_over, deadline_over, input_pins_over, read_over, system_ends, waits_on_system, write_over};
 
-use super::{Byte, Ends, Iic, Noticed, ReadOut, Stepped};
+use super::{Answered, Deadline, Ends, Iic, Stepped};
 use bus::Levels;
-use clocks::wait::Deadline;
-use counts::Truth;
 use domain::Domain;
+use refusals::Refusal;
 use registers::Register;
 use time::Time;
-use waits::ends::sooner;
+use waits::ends::{half_end, is_on_system, sooner, system_end};
 
 impl Iic {
-    pub(crate) fn read_by(mut self, zero: bool, address: u16, now: Time, system: Domain) -> ReadOut
+    pub(crate) fn read_by(self, zero: bool, address: u16, now: Time, system: Domain) -> Answered<u8>
         ensures { result ≡ read_by zero self address now system }
     {
         let value = self.peek(address);
-        let refusal = self.guard(zero);
-        let stands = refusal != 0;
-        if stands {
-            return ReadOut {
-                answer: Byte::Refused(refusal),
-                state: self,
-            };
-        }
-        let next = self.read_at(Register::at(address), now, system);
-        let ended = next.ended;
-        self = next.state;
-        ReadOut {
-            answer: ended.byte(value),
-            state: self,
-        }
+        self.guarded(zero, |s| s.read_at(Register::at(address), now, system))
+            .answering(value)
     }
 
     pub(crate) fn write_by(
-        mut self,
+        self,
         zero: bool,
         address: u16,
         value: u8,
@@ -45,80 +31,59 @@ impl Iic {
     ) -> Stepped
         ensures { result ≡ write_by zero self address value now system }
     {
-        let refusal = self.guard(zero);
-        let stands = refusal != 0;
-        if stands {
-            return self.refused(refusal);
-        }
-        self.write_at(Register::at(address), value, now, system)
+        self.guarded(
+            zero,
+            |s| s.write_at(Register::at(address), value, now, system),
+        )
     }
 
+    #[tactic(auto, unfolding(crate::specs::Calls::take_pins_of))]
     fn take_pins(mut self, given: Levels, now: Time, system: Domain) -> Stepped
         ensures { result ≡ take_pins_of given now system self }
     {
-        let lines = self.lines;
-        let raw = lines.raw;
-        if bus::same_levels(raw, given) {
+        if self.lines.raw == given {
             return self.fine();
         }
-        self.lines.raw.scl = given.scl;
-        self.lines.raw.sda = given.sda;
-        self.fine().schedule_filter(now, system)
+        self.lines.raw = given;
+        self.schedule_filter(now, system)
     }
 
     pub(crate) fn input_pins_by(
-        mut self,
+        self,
         zero: bool,
         scl: bool,
         sda: bool,
         now: Time,
         system: Domain,
-    ) -> Noticed
+    ) -> Answered<bool>
         ensures { result ≡ input_pins_by zero self scl sda now system }
     {
         let given = Levels { scl, sda };
         let value = self.observes(given);
-        let refusal = self.guard(zero);
-        let stands = refusal != 0;
-        if stands {
-            return Noticed {
-                answer: Truth::Refused(refusal),
-                state: self,
-            };
-        }
-        let next = self.take_pins(given, now, system);
-        let ended = next.ended;
-        self = next.state;
-        Noticed {
-            answer: ended.truth(value),
-            state: self,
-        }
+        self.guarded(zero, |s| s.take_pins(given, now, system))
+            .answering(value)
     }
 
+    #[tactic(auto, unfolding(crate::specs::Calls::earliest_of))]
     pub(crate) fn deadline_by(self, zero: bool, ends: Ends, system: Domain) -> Deadline
         ensures { result ≡ deadline_by zero ends self system }
     {
         if zero {
-            return Deadline::Refused(1);
+            return Err(Refusal::ZeroFrequency);
         }
         if !self.awake() {
-            return Deadline::Never;
+            return Ok(None);
         }
-        let clock_wait = self.clock_wait;
-        let monitor_wait = self.monitor_wait;
-        let filter = ends.filter;
-        let setup = ends.setup;
-        let mut next = sooner(monitor_wait.half_end(system), setup);
-        next = sooner(clock_wait.half_end(system), next);
-        sooner(filter, next)
+        let monitor = sooner(half_end(self.monitor_wait, system), ends.setup);
+        let clock = sooner(half_end(self.clock_wait, system), monitor);
+        sooner(ends.filter, clock)
     }
 
+    // The guard is tested in place: as a closure of `guarded`, the test and the visit after it would be no shorter.
     pub(crate) fn advance_by(self, zero: bool, ends: Ends, now: Time, system: Domain) -> Stepped
         ensures { result ≡ advance_by zero ends self now system }
     {
-        let refusal = self.guard(zero);
-        let stands = refusal != 0;
-        if stands {
+        if let Err(refusal) = self.guard(zero) {
             return self.refused(refusal);
         }
         if !self.awake() {
@@ -130,19 +95,28 @@ impl Iic {
 
 // Over the system clock alone.
 impl Iic {
-    pub fn read_over(mut self, address: u16, now: Time, system: Domain) -> ReadOut
+    #[tactic(auto, unfolding(crate::specs::Over::read_over))]
+    pub fn read_over(mut self, address: u16, now: Time, system: Domain) -> Answered<u8>
         ensures { result ≡ read_over self address now system }
     {
         self.read_by(system.has_zero(), address, now, system)
     }
 
+    #[tactic(auto, unfolding(crate::specs::Over::write_over))]
     pub fn write_over(mut self, address: u16, value: u8, now: Time, system: Domain) -> Stepped
         ensures { result ≡ write_over self address value now system }
     {
         self.write_by(system.has_zero(), address, value, now, system)
     }
 
-    pub fn input_pins_over(mut self, scl: bool, sda: bool, now: Time, system: Domain) -> Noticed
+    #[tactic(auto, unfolding(crate::specs::Over::input_pins_over))]
+    pub fn input_pins_over(
+        mut self,
+        scl: bool,
+        sda: bool,
+        now: Time,
+        system: Domain,
+    ) -> Answered<bool>
         ensures { result ≡ input_pins_over self scl sda now system }
     {
         self.input_pins_by(system.has_zero(), scl, sda, now, system)
@@ -152,29 +126,27 @@ impl Iic {
     pub fn waits_on_system(self) -> bool
         ensures { result ≡ waits_on_system self }
     {
-        let filter_wait = self.filter_wait;
-        let setup_wait = self.setup_wait;
-        filter_wait.is_on_system() & setup_wait.is_on_system()
+        is_on_system(self.filter_wait) & is_on_system(self.setup_wait)
     }
 
     // When they end, where they are.
     fn system_ends(self, system: Domain) -> Ends
         ensures { result ≡ system_ends self system }
     {
-        let filter_wait = self.filter_wait;
-        let setup_wait = self.setup_wait;
         Ends {
-            filter: filter_wait.system_end(system),
-            setup: setup_wait.system_end(system),
+            filter: system_end(self.filter_wait, system),
+            setup: system_end(self.setup_wait, system),
         }
     }
 
+    #[tactic(auto, unfolding(crate::specs::Over::deadline_over))]
     pub fn deadline_over(self, system: Domain) -> Deadline
         ensures { result ≡ deadline_over self system }
     {
         self.deadline_by(system.has_zero(), self.system_ends(system), system)
     }
 
+    #[tactic(auto, unfolding(crate::specs::Over::advance_over))]
     pub fn advance_over(mut self, now: Time, system: Domain) -> Stepped
         ensures { result ≡ advance_over self now system }
     {

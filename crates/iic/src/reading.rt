@@ -2,48 +2,46 @@
 ghost use Rattle.std.specs.Prelude.{◌≡◌};
 ghost use Rattle.iic.specs.Reading.{continued_of, fell_now, peek_at, read_at, read_data_of, taken_of};
 
-use super::{EighthFall, Iic, Stepped};
+use super::{Iic, Stepped};
 use domain::Domain;
+use frames::parts::{marked_in, shown_count};
 use registers::Register;
 use registers::bits::{MST, RCVD};
 use time::Time;
-
-impl EighthFall {
-    fn fell_at(self, now: Time) -> bool
-        ensures { result ≡ fell_now self now }
-    {
-        match self {
-            EighthFall::NoFall => false,
-            EighthFall::FellAt(t) => t.same(now),
-        }
-    }
-}
 
 impl Iic {
     // What a register shows.
     pub(crate) fn peek_at(self, register: Register) -> u8
         ensures { result ≡ peek_at register self }
     {
-        let frame = self.frame;
-        let lines = self.lines;
-        let drive = lines.drive;
-        let registers = self.registers;
-        let count = frame.shown_count(registers.count);
-        registers.shown(register, drive, self.flags.busy, self.flags.reset, count)
+        let count = shown_count(self.frame, self.registers.count);
+        self.registers.shown(
+            register,
+            self.lines.drive,
+            self.flags.busy,
+            self.flags.reset,
+            count,
+        )
+    }
+
+    // The eighth fall was at this very time.
+    fn fell_at(self, now: Time) -> bool
+        ensures { result ≡ fell_now self.eighth_fall now }
+    {
+        self.eighth_fall.is_some_and(|t| t.same(now))
     }
 
     // ICDRR was read.
+    #[tactic(auto, unfolding(crate::specs::Reading::taken_of))]
     pub(crate) fn taken(mut self, now: Time) -> Iic
         ensures { result ≡ taken_of now self }
     {
-        let eighth_fall = self.eighth_fall;
-        let stale = self.flags.stale_release | eighth_fall.fell_at(now);
-        self.flags.stale_release = stale;
-        let registers = self.registers;
-        self.registers = registers.take_data();
+        self.flags.stale_release |= self.fell_at(now);
+        self.registers = self.registers.take_data();
         self
     }
 
+    #[tactic(auto, unfolding(crate::specs::Reading::continued_of))]
     pub(crate) fn continued(mut self) -> Iic
         ensures { result ≡ continued_of self }
     {
@@ -51,12 +49,12 @@ impl Iic {
         if goes {
             self.flags.receive_enabled = true;
             let last = self.registers.control & RCVD != 0;
-            let frame = self.frame;
-            self = self.with_frame(frame.marked_in(last));
+            self.frame = marked_in(self.frame, last);
         }
         self
     }
 
+    #[tactic(auto, unfolding(crate::specs::Reading::read_data_of, crate::specs::Reading::resumed_of))]
     fn read_data(mut self, now: Time, system: Domain) -> Stepped
         ensures { result ≡ read_data_of now system self }
     {
@@ -65,20 +63,21 @@ impl Iic {
             return self.fine();
         }
         self = self.continued();
-        let mut next = self.fine();
-        if self.held() {
-            next = self.release_hold(now, system);
-        }
-        next.kick(now, system)
+        let next = if self.held() {
+            self.release_hold(now, system)
+        } else {
+            self.fine()
+        };
+        next.and_then(|s| s.kick(now, system))
     }
 
+    #[tactic(auto, unfolding(crate::specs::Reading::read_at))]
     pub(crate) fn read_at(mut self, register: Register, now: Time, system: Domain) -> Stepped
         ensures { result ≡ read_at register now system self }
     {
         match register {
             Register::ICSR => {
-                let status = self.registers.status;
-                self.registers.seen = status;
+                self.registers.seen = self.registers.status;
                 self.fine()
             }
             Register::ICDRR => self.read_data(now, system),

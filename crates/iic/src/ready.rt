@@ -4,7 +4,7 @@ ghost use Rattle.iic.specs.Ready.{clock_due, command_ready, frame_due, level_at,
 ghost use Rattle.iic.specs.Settled.{at_rest, settled};
 
 use super::Iic;
-use frames::{Frame, Framing, Phase};
+use frames::{Frame, Phase};
 use registers::bits::{ACKBT, FS, MST, NACKF, TDRE, TRS};
 
 impl Iic {
@@ -35,6 +35,7 @@ impl Iic {
     }
 
     // A frame begins where one is due.
+    #[tactic(auto, unfolding(crate::specs::Ready::next_frame_of))]
     pub(crate) fn next_frame(mut self) -> Iic
         ensures { result ≡ next_frame_of self }
     {
@@ -50,18 +51,17 @@ impl Iic {
     {
         let rests = !self.frame_due();
         let clocks = self.clock_due();
-        let frame = self.frame;
-        let Framing::InFrame(f) = frame else {
+        let Some(f) = self.frame else {
             return rests;
         };
-        let phase = f.phase;
         let empty = self.registers.status & TDRE != 0;
         let sync = self.registers.address & FS != 0;
         let starved = f.starved();
-        rests & (!(starved & !empty) & (!clocks | (phase.is_done() | (starved & sync))))
+        rests & (!(starved & !empty) & (!clocks | (f.phase.is_done() | (starved & sync))))
     }
 
     // `kick` would start nothing.
+    #[tactic(auto, unfolding(crate::specs::Settled::settled))]
     pub(crate) fn settled(self) -> bool
         ensures { result ≡ settled self }
     {
@@ -72,21 +72,20 @@ impl Iic {
     pub(crate) fn clock_due(self) -> bool
         ensures { result ≡ clock_due self }
     {
-        let clock_wait = self.clock_wait;
-        self.master() & !clock_wait.is_half() & !self.held() & !self.flags.synchronized_hold
+        self.master() & self.clock_wait.is_none() & !self.held() & !self.flags.synchronized_hold
     }
 
     pub(crate) fn level(self, f: Frame) -> bool
         ensures { result ≡ level_at f.phase f self }
     {
-        let phase = f.phase;
-        if phase.is_data() {
+        if f.phase.is_data() {
             return f.data_level();
         }
         f.transmit | (self.registers.enable & ACKBT != 0)
     }
 
     // SCL goes low; SDA changes only while filtered SCL is low.
+    #[tactic(auto, unfolding(crate::specs::Ready::low_half_of))]
     pub(crate) fn low_half(mut self, level: bool) -> Iic
         ensures { result ≡ low_half_of level self }
     {
@@ -101,23 +100,20 @@ impl Iic {
     fn released_level(self, f: Frame) -> bool
         ensures { result ≡ released_level f.phase f self }
     {
-        let phase = f.phase;
-        match phase {
-            Phase::Data => f.data_level(),
+        match f.phase {
             Phase::Ack => self.registers.enable & ACKBT != 0,
-            Phase::Done => f.data_level(),
+            Phase::Data | Phase::Done => f.data_level(),
         }
     }
 
+    #[tactic(auto, unfolding(crate::specs::Ready::show_of))]
     pub(crate) fn show(mut self) -> Iic
         ensures { result ≡ show_of self }
     {
-        let frame = self.frame;
-        let Framing::InFrame(f) = frame else {
+        let Some(f) = self.frame else {
             return self;
         };
-        let level = self.released_level(f);
-        self.lines.drive.sda = level;
+        self.lines.drive.sda = self.released_level(f);
         self
     }
 }

@@ -1,15 +1,14 @@
 // The default state, its parts set anew, and the tests on it.
 ghost use Rattle.std.specs.Prelude.{◌≡◌};
-ghost use Rattle.iic.specs.Setters.{set_clock_wait, set_command, set_condition, set_eighth_fall, set_frame, set_hold, set_filter_wait, set_monitor_wait, set_setup_wait};
-ghost use Rattle.iic.specs.State.{awake, commanded, conditioned, default_iic, default_flags, enabled, framed, held, initial, is_transmit_hold, master, raise, stop_shifter_of, synchronous, transmits, unclocked, with_rates_of};
+ghost use Rattle.iic.specs.Setters.{set_hold};
+ghost use Rattle.iic.specs.State.{awake, commanded, conditioned, default_iic, default_flags, enabled, framed, held, initial, master, raise, stop_shifter_of, synchronous, transmits, unclocked, with_rates_of};
 
-use super::{Command, Condition, EighthFall, Flags, Given, Hold, Iic, Lines};
+use super::{Condition, Flags, Hold, Iic, Lines, Stepped};
 use bus::Levels;
-use frames::Framing;
 use rates::Rates;
+use refusals::Refusal;
 use registers::Registers;
 use registers::bits::{FS, ICE, MST, TRS};
-use waits::{MaybeHalf, MaybeWait};
 
 impl Flags {
     fn new() -> Flags
@@ -38,17 +37,18 @@ impl Iic {
     }
 
     // The same with another rate set, and whether that is refused.
-    pub fn with_rates(rates: Rates) -> Given
+    pub fn with_rates(rates: Rates) -> Stepped
         ensures { result ≡ with_rates_of rates }
     {
         let state = Iic::initial(rates);
         if rates.hold() {
-            Given { refusal: 0, state }
+            state.fine()
         } else {
-            Given { refusal: 14, state }
+            state.refused(Refusal::Rates)
         }
     }
 
+    #[tactic(auto, unfolding(crate::specs::State::initial))]
     fn initial(rates: Rates) -> Iic
         ensures { result ≡ initial rates }
     {
@@ -65,35 +65,17 @@ impl Iic {
                 filtered: high,
             },
             flags: Flags::new(),
-            frame: Framing::NoFrame,
+            frame: None,
             condition: Condition::NoCondition,
-            command: Command::NoCommand,
+            command: None,
             hold: Hold::NoHold,
-            eighth_fall: EighthFall::NoFall,
-            clock_wait: MaybeHalf::NoHalf,
-            monitor_wait: MaybeHalf::NoHalf,
-            filter_wait: MaybeWait::NoWait,
-            setup_wait: MaybeWait::NoWait,
+            eighth_fall: None,
+            clock_wait: None,
+            monitor_wait: None,
+            filter_wait: None,
+            setup_wait: None,
             rates,
         }
-    }
-
-    pub(crate) fn with_frame(self, frame: Framing) -> Iic
-        ensures { result ≡ set_frame frame self }
-    {
-        Iic { frame, ..self }
-    }
-
-    pub(crate) fn with_condition(self, condition: Condition) -> Iic
-        ensures { result ≡ set_condition condition self }
-    {
-        Iic { condition, ..self }
-    }
-
-    pub(crate) fn with_command(self, command: Command) -> Iic
-        ensures { result ≡ set_command command self }
-    {
-        Iic { command, ..self }
     }
 
     pub fn with_hold(self, hold: Hold) -> Iic
@@ -102,58 +84,13 @@ impl Iic {
         Iic { hold, ..self }
     }
 
-    pub(crate) fn with_eighth_fall(self, fall: EighthFall) -> Iic
-        ensures { result ≡ set_eighth_fall fall self }
-    {
-        Iic {
-            eighth_fall: fall,
-            ..self
-        }
-    }
-
-    pub(crate) fn with_clock_wait(self, wait: MaybeHalf) -> Iic
-        ensures { result ≡ set_clock_wait wait self }
-    {
-        Iic {
-            clock_wait: wait,
-            ..self
-        }
-    }
-
-    pub(crate) fn with_monitor_wait(self, wait: MaybeHalf) -> Iic
-        ensures { result ≡ set_monitor_wait wait self }
-    {
-        Iic {
-            monitor_wait: wait,
-            ..self
-        }
-    }
-
-    pub(crate) fn with_filter_wait(self, wait: MaybeWait) -> Iic
-        ensures { result ≡ set_filter_wait wait self }
-    {
-        Iic {
-            filter_wait: wait,
-            ..self
-        }
-    }
-
-    pub(crate) fn with_setup_wait(self, wait: MaybeWait) -> Iic
-        ensures { result ≡ set_setup_wait wait self }
-    {
-        Iic {
-            setup_wait: wait,
-            ..self
-        }
-    }
-
     // Neither of the two half waits.
     pub(crate) fn unclocked(self) -> Iic
         ensures { result ≡ unclocked self }
     {
         Iic {
-            clock_wait: MaybeHalf::NoHalf,
-            monitor_wait: MaybeHalf::NoHalf,
+            clock_wait: None,
+            monitor_wait: None,
             ..self
         }
     }
@@ -161,8 +98,7 @@ impl Iic {
     pub(crate) fn raise(mut self, flags: u8) -> Iic
         ensures { result ≡ raise flags self }
     {
-        let status = self.registers.status | flags;
-        self.registers.status = status;
+        self.registers.status |= flags;
         self
     }
 
@@ -200,44 +136,29 @@ impl Iic {
     pub(crate) fn framed(self) -> bool
         ensures { result ≡ framed self }
     {
-        let frame = self.frame;
-        let Framing::NoFrame = frame else {
-            return true;
-        };
-        false
+        self.frame.is_some()
     }
 
     pub(crate) fn conditioned(self) -> bool
         ensures { result ≡ conditioned self }
     {
-        let condition = self.condition;
-        let Condition::NoCondition = condition else {
-            return true;
-        };
-        false
+        self.condition != Condition::NoCondition
     }
 
     pub(crate) fn commanded(self) -> bool
         ensures { result ≡ commanded self }
     {
-        let command = self.command;
-        let Command::NoCommand = command else {
-            return true;
-        };
-        false
+        self.command.is_some()
     }
 
     pub(crate) fn held(self) -> bool
         ensures { result ≡ held self }
     {
-        let hold = self.hold;
-        let Hold::NoHold = hold else {
-            return true;
-        };
-        false
+        self.hold != Hold::NoHold
     }
 
     // All that is under way stops, and both lines are released.
+    #[tactic(auto, unfolding(crate::specs::State::stop_shifter_of))]
     pub(crate) fn stop_shifter(mut self) -> Iic
         ensures { result ≡ stop_shifter_of self }
     {
@@ -247,25 +168,14 @@ impl Iic {
         self.flags.receive_enabled = false;
         self.flags.receive_stopped = false;
         Iic {
-            frame: Framing::NoFrame,
+            frame: None,
             condition: Condition::NoCondition,
-            command: Command::NoCommand,
+            command: None,
             hold: Hold::NoHold,
-            clock_wait: MaybeHalf::NoHalf,
-            monitor_wait: MaybeHalf::NoHalf,
-            setup_wait: MaybeWait::NoWait,
+            clock_wait: None,
+            monitor_wait: None,
+            setup_wait: None,
             ..self
         }
-    }
-}
-
-impl Hold {
-    pub(crate) fn is_transmit(self) -> bool
-        ensures { result ≡ is_transmit_hold self }
-    {
-        let Hold::Transmit = self else {
-            return false;
-        };
-        true
     }
 }

@@ -1,79 +1,103 @@
 // How the four waits of a state start, pause and resume.
-ghost use Rattle.std.specs.Prelude.{◌&&◌, ◌≡◌};
-ghost use Rattle.iic.specs.Answers.{and_then};
-ghost use Rattle.iic.specs.Inside.{went_on};
-ghost use Rattle.iic.specs.Waiting.{start_filter_of, clock_from, monitor_from, filter_from, setup_from, start_clock_of, wants_filter, schedule_filter_of, turn_clock_of, turn_monitor_of, turn_filter_of, turn_setup_of};
+ghost use Rattle.std.specs.Prelude.{◌≡◌, Option, Some};
+ghost use Rattle.iic.specs.Answers.{Stepped};
+ghost use Rattle.iic.specs.Waiting.{at_wait, clock_from, filter_from, monitor_from, schedule_filter_of, setup_from, start_clock_of, start_filter_of, start_monitor_of, start_setup_of, turn_clock_of, turn_filter_of, turn_monitor_of, turn_setup_of, wait_from, wants_filter};
+ghost use Rattle.iic.specs.declared.Iic.{Iic};
 
 use super::{Iic, Stepped};
 use clocks::Clocks;
-use clocks::wait::{ClockWait, NewWait};
+use clocks::wait::ClockWait;
 use domain::Domain;
+use refusals::Refusal;
 use time::Time;
+use waits::HalfWait;
 use waits::ends::{turn_half, turn_wait};
-use waits::{HalfWait, MaybeHalf, MaybeWait, NewHalf};
 
 impl Iic {
-    pub(crate) fn clock_from(mut self, made: NewHalf) -> Stepped
+    // A wait that was made is set in the state, a refused one leaves the state as it is at this point.
+    fn wait_from<W, F: FnOnce(Iic, W) -> Iic>(self, made: Result<W, Refusal>, set: F) -> Stepped
+        requires { F.IsAlwaysCallable set }
+        ensures { (f : Option W → Iic → Iic) → ((s : Iic) (w : W) (r : Iic) → F.post set s w r → r ≡ f (Some w) s) → result ≡ wait_from f made self }
+    {
+        match made {
+            Ok(wait) => set(self, wait).fine(),
+            Err(refusal) => self.refused(refusal),
+        }
+    }
+
+    pub(crate) fn clock_from(self, made: Result<HalfWait, Refusal>) -> Stepped
         ensures { result ≡ clock_from made self }
     {
-        match made {
-            NewHalf::Made(w) => {
-                self = self.with_clock_wait(MaybeHalf::Half(w));
-                return self.fine();
-            }
-            NewHalf::Refused(n) => {
-                return self.refused(n);
-            }
-        }
+        self.wait_from(
+            made,
+            |s, w| Iic {
+                clock_wait: Some(w),
+                ..s
+            },
+        )
     }
 
-    pub(crate) fn monitor_from(mut self, made: NewHalf) -> Stepped
+    fn monitor_from(self, made: Result<HalfWait, Refusal>) -> Stepped
         ensures { result ≡ monitor_from made self }
     {
-        match made {
-            NewHalf::Made(w) => {
-                self = self.with_monitor_wait(MaybeHalf::Half(w));
-                return self.fine();
-            }
-            NewHalf::Refused(n) => {
-                return self.refused(n);
-            }
-        }
+        self.wait_from(
+            made,
+            |s, w| Iic {
+                monitor_wait: Some(w),
+                ..s
+            },
+        )
     }
 
-    fn filter_from(self, made: NewWait) -> Stepped
+    fn filter_from(self, made: Result<ClockWait, Refusal>) -> Stepped
         ensures { result ≡ filter_from made self }
     {
-        match made {
-            NewWait::Made(w) => {
-                return self.with_filter_wait(MaybeWait::Waiting(w)).fine();
-            }
-            NewWait::Refused(n) => {
-                return self.refused(n);
-            }
-        }
+        self.wait_from(
+            made,
+            |s, w| Iic {
+                filter_wait: Some(w),
+                ..s
+            },
+        )
     }
 
-    pub(crate) fn setup_from(self, made: NewWait) -> Stepped
+    fn setup_from(self, made: Result<ClockWait, Refusal>) -> Stepped
         ensures { result ≡ setup_from made self }
     {
-        match made {
-            NewWait::Made(w) => {
-                return self.with_setup_wait(MaybeWait::Waiting(w)).fine();
-            }
-            NewWait::Refused(n) => {
-                return self.refused(n);
-            }
-        }
+        self.wait_from(
+            made,
+            |s, w| Iic {
+                setup_wait: Some(w),
+                ..s
+            },
+        )
     }
 
     // The clock's wait starts, or the state stays as it is at this point.
+    #[tactic(auto, unfolding(crate::specs::Waiting::start_clock_of))]
     pub(crate) fn start_clock(self, now: Time, system: Domain) -> Stepped
         ensures { result ≡ start_clock_of now system self }
     {
-        let rates = self.rates;
-        let halves = rates.period(self.registers.control) as u64;
+        let halves = self.rates.period(self.registers.control) as u64;
         self.clock_from(HalfWait::after(now, halves, system))
+    }
+
+    // The monitor's wait starts.
+    #[tactic(auto, unfolding(crate::specs::Waiting::start_monitor_of))]
+    pub(crate) fn start_monitor(self, now: Time, system: Domain) -> Stepped
+        ensures { result ≡ start_monitor_of now system self }
+    {
+        let halves = self.rates.monitor_halves(self.registers.control) as u64;
+        self.monitor_from(HalfWait::after(now, halves, system))
+    }
+
+    // The setup's wait starts.
+    #[tactic(auto, unfolding(crate::specs::Waiting::start_setup_of))]
+    pub(crate) fn start_setup(self, now: Time, system: Domain) -> Stepped
+        ensures { result ≡ start_setup_of now system self }
+    {
+        let cycles = self.rates.setup_cycles(self.registers.control) as u64;
+        self.setup_from(ClockWait::system_after(now, cycles, system))
     }
 
     // The filter's wait starts.
@@ -87,79 +111,73 @@ impl Iic {
     pub(crate) fn wants_filter(self) -> bool
         ensures { result ≡ wants_filter self }
     {
-        let filter_wait = self.filter_wait;
-        self.awake() & !filter_wait.is_wait() & self.unsettled()
-    }
-}
-
-impl Stepped {
-    // Whether a filter's wait is wanted, and nothing was refused.
-    pub(crate) fn wants_filter(self) -> bool
-        ensures { result ≡ (went_on self.ended && wants_filter self.state) }
-    {
-        self.went_on() & self.state.wants_filter()
+        self.awake() & self.filter_wait.is_none() & self.unsettled()
     }
 
     // The filter's wait starts where it is wanted.
-    pub(crate) fn schedule_filter(mut self, now: Time, system: Domain) -> Stepped
-        ensures { result ≡ and_then self (schedule_filter_of now system) }
+    #[tactic(auto, unfolding(crate::specs::Waiting::schedule_filter_of))]
+    pub(crate) fn schedule_filter(self, now: Time, system: Domain) -> Stepped
+        ensures { result ≡ schedule_filter_of now system self }
     {
         if self.wants_filter() {
-            self = self.state.start_filter(now, system);
+            return self.start_filter(now, system);
         }
-        self
+        self.fine()
+    }
+
+    // A step of a wait, where there is one.
+    pub(crate) fn at_wait<W, F: FnOnce(Iic, W) -> Stepped>(
+        self,
+        wait: Option<W>,
+        step: F,
+    ) -> Stepped
+        requires { F.IsAlwaysCallable step }
+        ensures { (f : W → Iic → Stepped) → ((s : Iic) (w : W) (r : Stepped) → F.post step s w r → r ≡ f w s) → result ≡ at_wait wait f self }
+    {
+        match wait {
+            Some(w) => step(self, w),
+            None => self.fine(),
+        }
     }
 
     // The clock's wait resumes (true) or pauses (false).
-    pub(crate) fn turn_clock(mut self, gate: bool, now: Time, system: Domain) -> Stepped
-        ensures { result ≡ and_then self (turn_clock_of gate now system) }
+    #[tactic(auto, unfolding(crate::specs::Waiting::turn_clock_of))]
+    pub(crate) fn turn_clock(self, gate: bool, now: Time, system: Domain) -> Stepped
+        ensures { result ≡ turn_clock_of gate now system self }
     {
-        let state = self.state;
-        let clock_wait = state.clock_wait;
-        if let MaybeHalf::Half(w) = clock_wait {
-            if self.went_on() {
-                self = self.state.clock_from(turn_half(gate, now, system, w));
-            }
-        }
-        self
+        self.at_wait(
+            self.clock_wait,
+            |s, w| s.clock_from(turn_half(gate, now, system, w)),
+        )
     }
 
-    pub(crate) fn turn_monitor(mut self, gate: bool, now: Time, system: Domain) -> Stepped
-        ensures { result ≡ and_then self (turn_monitor_of gate now system) }
+    #[tactic(auto, unfolding(crate::specs::Waiting::turn_monitor_of))]
+    pub(crate) fn turn_monitor(self, gate: bool, now: Time, system: Domain) -> Stepped
+        ensures { result ≡ turn_monitor_of gate now system self }
     {
-        let state = self.state;
-        let monitor_wait = state.monitor_wait;
-        if let MaybeHalf::Half(w) = monitor_wait {
-            if self.went_on() {
-                self = self.state.monitor_from(turn_half(gate, now, system, w));
-            }
-        }
-        self
+        self.at_wait(
+            self.monitor_wait,
+            |s, w| s.monitor_from(turn_half(gate, now, system, w)),
+        )
     }
 
-    pub(crate) fn turn_filter(mut self, gate: bool, now: Time, clocks: Clocks) -> Stepped
-        ensures { result ≡ and_then self (turn_filter_of gate now clocks) }
+    #[tactic(auto, unfolding(crate::specs::Waiting::turn_filter_of))]
+    pub(crate) fn turn_filter(self, gate: bool, now: Time, clocks: Clocks) -> Stepped
+        ensures { result ≡ turn_filter_of gate now clocks self }
     {
-        let state = self.state;
-        let filter_wait = state.filter_wait;
-        if let MaybeWait::Waiting(w) = filter_wait {
-            if self.went_on() {
-                self = state.filter_from(turn_wait(gate, now, clocks, w));
-            }
-        }
-        self
+        self.at_wait(
+            self.filter_wait,
+            |s, w| s.filter_from(turn_wait(gate, now, clocks, w)),
+        )
     }
 
-    pub(crate) fn turn_setup(mut self, gate: bool, now: Time, clocks: Clocks) -> Stepped
-        ensures { result ≡ and_then self (turn_setup_of gate now clocks) }
+    #[tactic(auto, unfolding(crate::specs::Waiting::turn_setup_of))]
+    pub(crate) fn turn_setup(self, gate: bool, now: Time, clocks: Clocks) -> Stepped
+        ensures { result ≡ turn_setup_of gate now clocks self }
     {
-        let state = self.state;
-        let setup_wait = state.setup_wait;
-        if let MaybeWait::Waiting(w) = setup_wait {
-            if self.went_on() {
-                self = state.setup_from(turn_wait(gate, now, clocks, w));
-            }
-        }
-        self
+        self.at_wait(
+            self.setup_wait,
+            |s, w| s.setup_from(turn_wait(gate, now, clocks, w)),
+        )
     }
 }

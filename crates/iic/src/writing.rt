@@ -1,33 +1,32 @@
 // The registers as the host writes them, with what follows in time.
 ghost use Rattle.std.specs.Prelude.{◌≡◌};
-ghost use Rattle.iic.specs.Answers.{and_then, fine};
-ghost use Rattle.iic.specs.Writing.{enter_reset_of, give_data_of, pull_sda_of, redirected, stop_receive_of, take_control_of, takes_command, write_at, write_command_of, write_control_of, write_data_of, write_mode_of};
+ghost use Rattle.iic.specs.Writing.{enter_reset_of, give_data_of, pull_sda_of, redirected, send_on_of, stop_receive_of, take_control_of, takes_command, write_at, write_command_of, write_control_of, write_data_of, write_mode_of};
 ghost use Rattle.iic.specs.Inside.{write_plain};
 
-use super::{Command, Iic, Stepped};
+use super::{Hold, Iic, Stepped};
 use domain::Domain;
+use frames::parts::{is_done_in, recounted_in, redirected_in};
 use registers::Register;
 use registers::bits::{
     ACKE, BBSY, BC, BCWP, FS, ICE, IICRST, MLS, MST, RCVD, SCP, SDAO, SDAOP, TDRE, TRS, WAIT,
 };
 use time::Time;
-use waits::MaybeWait;
 
 impl Iic {
+    #[tactic(auto, unfolding(crate::specs::Writing::redirected))]
     fn redirect(mut self, value: u8) -> Iic
         ensures { result ≡ redirected value self }
     {
-        let frame = self.frame;
         let transmit = self.registers.control & TRS != 0;
         let master = self.registers.control & MST != 0;
         let scl = self.lines.filtered.scl;
-        let next = frame.redirected_in(transmit, master, value & RCVD != 0, scl);
-        let enabled = (self.registers.address & FS != 0) & !transmit;
-        self.flags.receive_enabled = enabled;
+        self.frame = redirected_in(self.frame, transmit, master, value & RCVD != 0, scl);
+        self.flags.receive_enabled = (self.registers.address & FS != 0) & !transmit;
         self.flags.receive_stopped = false;
-        self.with_frame(next)
+        self
     }
 
+    #[tactic(auto, unfolding(crate::specs::Writing::control_set, crate::specs::Writing::take_control_of))]
     pub(crate) fn take_control(mut self, value: u8) -> Iic
         ensures { result ≡ take_control_of value self }
     {
@@ -42,6 +41,7 @@ impl Iic {
     }
 
     // A synchronous receiver with RCVD and no frame receives nothing.
+    #[tactic(auto, unfolding(crate::specs::Writing::stop_receive_of))]
     pub(crate) fn stop_receive(mut self) -> Iic
         ensures { result ≡ stop_receive_of self }
     {
@@ -49,11 +49,11 @@ impl Iic {
             & !(self.registers.control & TRS != 0)
             & (self.registers.control & RCVD != 0)
             & !self.framed();
-        let enabled = self.flags.receive_enabled & !stops;
-        self.flags.receive_enabled = enabled;
+        self.flags.receive_enabled &= !stops;
         self
     }
 
+    #[tactic(auto, unfolding(crate::specs::Writing::enter_reset_of))]
     pub(crate) fn enter_reset(mut self) -> Iic
         ensures { result ≡ enter_reset_of self }
     {
@@ -64,15 +64,14 @@ impl Iic {
     }
 
     // SDA as SDAO asks, where SDAOP is 0.
+    #[tactic(auto, unfolding(crate::specs::Writing::pull_sda_of))]
     pub(crate) fn pull_sda(mut self, value: u8) -> Iic
         ensures { result ≡ pull_sda_of value self }
     {
-        let protected = value & SDAOP != 0;
-        if protected {
+        if value & SDAOP != 0 {
             return self;
         }
-        let level = value & SDAO != 0;
-        self.lines.drive.sda = level;
+        self.lines.drive.sda = value & SDAO != 0;
         self
     }
 
@@ -84,31 +83,29 @@ impl Iic {
             & (self.registers.control & MST != 0)
             & !(self.registers.address & FS != 0)
             & (self.registers.control & ICE != 0);
-        let frame = self.frame;
         let lost = !(value & BBSY != 0)
             & (self.registers.enable & ACKE != 0)
             & (self.registers.control & TRS != 0)
             & self.lines.filtered.scl
-            & frame.is_done_in();
+            & is_done_in(self.frame);
         given & !lost
     }
 
+    #[tactic(auto, unfolding(crate::specs::Writing::write_mode_of))]
     fn write_mode(mut self, value: u8) -> Iic
         ensures { result ≡ write_mode_of value self }
     {
-        let protected = value & BCWP != 0;
-        let mode = value & (MLS | WAIT);
-        self.registers.mode = mode;
-        if protected {
+        self.registers.mode = value & (MLS | WAIT);
+        if value & BCWP != 0 {
             return self;
         }
-        let count = value & BC;
-        self.registers.count = count;
-        let frame = self.frame;
-        self.with_frame(frame.recounted_in(count))
+        self.registers.count = value & BC;
+        self.frame = recounted_in(self.frame, value & BC);
+        self
     }
 
     // The registers whose write alone starts no wait; in synchronous mode, by SAR, BBSY is 0.
+    #[tactic(auto, unfolding(crate::specs::Writing::write_address_of, crate::specs::Writing::write_enable_of, crate::specs::Writing::write_status_of))]
     pub(crate) fn write_plain(mut self, register: Register, value: u8) -> Iic
         ensures { result ≡ write_plain register value self }
     {
@@ -117,16 +114,13 @@ impl Iic {
                 self = self.write_mode(value);
             }
             Register::ICIER => {
-                let registers = self.registers;
-                self.registers = registers.write_enable(value);
+                self.registers = self.registers.write_enable(value);
             }
             Register::ICSR => {
-                let registers = self.registers;
-                self.registers = registers.write_status(value);
+                self.registers = self.registers.write_status(value);
             }
             Register::SAR => {
-                let busy = self.flags.busy & !(value & FS != 0);
-                self.flags.busy = busy;
+                self.flags.busy &= !(value & FS != 0);
                 self.registers.address = value;
             }
             _ => {}
@@ -134,34 +128,35 @@ impl Iic {
         self
     }
 
+    #[tactic(auto, unfolding(crate::specs::Writing::give_data_of))]
     pub(crate) fn give_data(mut self, value: u8) -> Iic
         ensures { result ≡ give_data_of value self }
     {
-        let registers = self.registers;
-        self.registers = registers.give_data(value);
+        self.registers = self.registers.give_data(value);
         self
     }
 
+    #[tactic(auto, unfolding(crate::specs::Writing::write_control_of))]
     fn write_control(mut self, value: u8, now: Time, system: Domain) -> Stepped
         ensures { result ≡ write_control_of value now system self }
     {
         self = self.take_control(value);
         if self.enabled() {
-            let mut next = self.fine();
-            next = next.schedule_filter(now, system);
-            next = next.stop_receive();
-            return next.kick(now, system);
+            return self
+                .schedule_filter(now, system)
+                .and_then(|s| s.stop_receive().fine())
+                .and_then(|s| s.kick(now, system));
         }
         self = self.stop_shifter();
-        self = self.with_filter_wait(MaybeWait::NoWait);
+        self.filter_wait = None;
         self.fine()
     }
 
+    #[tactic(auto, unfolding(crate::specs::Writing::out_of_reset_of, crate::specs::Writing::write_command_of))]
     fn write_command(mut self, value: u8, now: Time, system: Domain) -> Stepped
         ensures { result ≡ write_command_of value now system self }
     {
-        let resets = value & IICRST != 0;
-        if resets {
+        if value & IICRST != 0 {
             return self.enter_reset().fine();
         }
         if self.flags.reset {
@@ -170,26 +165,33 @@ impl Iic {
         }
         self = self.pull_sda(value);
         if self.takes_command(value) {
-            let command = Command::Commanded(value & BBSY != 0);
-            self = self.with_command(command);
-            return self.fine().kick(now, system);
+            self.command = Some(value & BBSY != 0);
+            return self.kick(now, system);
         }
         self.fine()
     }
 
-    fn write_data(mut self, value: u8, now: Time, system: Domain) -> Stepped
-        ensures { result ≡ write_data_of value now system self }
+    // The byte goes to a frame that SCL was held for.
+    #[tactic(auto, unfolding(crate::specs::Writing::send_on_of))]
+    fn send_on(self, now: Time, system: Domain) -> Stepped
+        ensures { result ≡ send_on_of now system self }
     {
-        self = self.give_data(value);
-        let hold = self.hold;
-        let mut next = self.fine();
-        if hold.is_transmit() {
-            self = self.load_transmit();
-            next = self.release_hold(now, system);
+        if self.hold == Hold::Transmit {
+            return self.load_transmit().release_hold(now, system);
         }
-        next.kick(now, system)
+        self.fine()
     }
 
+    #[tactic(auto, unfolding(crate::specs::Writing::write_data_of))]
+    fn write_data(self, value: u8, now: Time, system: Domain) -> Stepped
+        ensures { result ≡ write_data_of value now system self }
+    {
+        self.give_data(value)
+            .send_on(now, system)
+            .and_then(|s| s.kick(now, system))
+    }
+
+    #[tactic(auto, unfolding(crate::specs::Writing::write_at))]
     pub(crate) fn write_at(
         mut self,
         register: Register,
@@ -203,20 +205,9 @@ impl Iic {
         match register {
             Register::ICCR1 => self.write_control(value, now, system),
             Register::ICCR2 => self.write_command(value, now, system),
-            Register::ICSR | Register::SAR => self.fine().kick(now, system),
+            Register::ICSR | Register::SAR => self.kick(now, system),
             Register::ICDRT => self.write_data(value, now, system),
             _ => self.fine(),
         }
-    }
-}
-
-impl Stepped {
-    fn stop_receive(mut self) -> Stepped
-        ensures { result ≡ and_then self (λ u. fine (stop_receive_of u)) }
-    {
-        if self.went_on() {
-            self = self.state.stop_receive().fine();
-        }
-        self
     }
 }

@@ -1,10 +1,8 @@
+use borrow.Author.Rules.{rules}
+use Rattle.std.specs.Prelude.{None}
+use Rattle.iic.specs.Clocking.{clock_step_of}
+use Rattle.iic.specs.Setters.{set_clock_wait}
 use Rattle.iic.proofs.Iic.fire_clock.Goals as goal
 
-pub returns-in-Now : goal.returns-in-Now
-returns-in-Now c = simp (c.clock_step.ensures, c.with_clock_wait.ensures, c.in-Now.is)
-
-pub returns-in-NotNow : goal.returns-in-NotNow
-returns-in-NotNow c = simp (c.fine.ensures, c.in-NotNow.is)
-
-pub returns-in-Refused : goal.returns-in-Refused
-returns-in-Refused c = simp (c.refused.ensures, c.in-Refused.is)
+pub returns : goal.returns
+returns c = c.firing.ensures (λ s. clock_step_of c.args.now c.args.system (set_clock_wait None s)) (λ s r p. search rules)

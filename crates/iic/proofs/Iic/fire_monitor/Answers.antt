@@ -1,10 +1,8 @@
+use borrow.Author.Rules.{rules}
+use Rattle.std.specs.Prelude.{None}
+use Rattle.iic.specs.Clocking.{stretch_of}
+use Rattle.iic.specs.Setters.{set_monitor_wait}
 use Rattle.iic.proofs.Iic.fire_monitor.Goals as goal
 
-pub returns-in-Now : goal.returns-in-Now
-returns-in-Now c = simp (c.stretch.ensures, c.with_monitor_wait.ensures, c.in-Now.is)
-
-pub returns-in-NotNow : goal.returns-in-NotNow
-returns-in-NotNow c = simp (c.fine.ensures, c.in-NotNow.is)
-
-pub returns-in-Refused : goal.returns-in-Refused
-returns-in-Refused c = simp (c.refused.ensures, c.in-Refused.is)
+pub returns : goal.returns
+returns c = c.firing.ensures (λ s. stretch_of c.args.now c.args.system (set_monitor_wait None s)) (λ s r p. search rules)

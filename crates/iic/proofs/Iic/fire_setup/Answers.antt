@@ -1,10 +1,10 @@
+use borrow.Author.Rules.{rules}
+use Rattle.std.specs.Prelude.{None}
+use Rattle.std.proofs.Common.{true}
+use Rattle.iic.specs.Answers.{fine}
+use Rattle.iic.specs.Setters.{set_setup_wait}
+use Rattle.iic.specs.State.{drive_scl}
 use Rattle.iic.proofs.Iic.fire_setup.Goals as goal
 
-pub returns-in-Now : goal.returns-in-Now
-returns-in-Now c = simp (c.fine.ensures, c.with_setup_wait-self.ensures, c.in-Now.is)
-
-pub returns-in-NotNow : goal.returns-in-NotNow
-returns-in-NotNow c = simp (c.fine-in-NotNow.ensures, c.in-NotNow.is)
-
-pub returns-in-Refused : goal.returns-in-Refused
-returns-in-Refused c = simp (c.refused.ensures, c.in-Refused.is)
+pub returns : goal.returns
+returns c = c.firing.ensures (λ s. fine (set_setup_wait None (drive_scl true s))) (λ s r p. search rules)

@@ -8,4 +8,4 @@ returns-then-command_ready c = simp (c.begin_condition.ensures, c.if-command_rea
 
 pub returns : goal.returns
 unfolding kick_of
-returns c = simp (c.clock_frame.ensures, c.load_transmit-self.ensures, c.next_frame-self.ensures, c.if-command_ready.false, ← c.command_ready.ensures, unsettled_ready c.args.self c.requires)
+returns c = simp (c.clock_frame.ensures, c.load_transmit.ensures, c.next_frame.ensures, c.if-command_ready.false, ← c.command_ready.ensures, unsettled_ready c.args.self c.requires)

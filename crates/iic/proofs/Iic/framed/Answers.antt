@@ -1,7 +1,0 @@
-use Rattle.iic.proofs.Iic.framed.Goals as goal
-
-pub returns-in_default : goal.returns-in_default
-returns-in_default c = simp c.in_default.is
-
-pub returns : goal.returns
-returns c = simp c.in-NoFrame.is
