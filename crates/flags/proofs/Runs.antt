@@ -1,6 +1,6 @@
 -- Laws: any calls from the default keep the invariant, and under it a status write does only what StatusWrites.antt says: the proofs of
 -- `StatusWrites`, `BeforeAnyRead` and `ReachedStates`. Assumes nothing.
-use Rattle.std.specs.Prelude.{ℕ, ◌+◌, ◌<◌, Bool, true, not, ◌&&◌, ◌||◌, cond, List, [], ◌∷◌, ◌≡◌, refl, eqb, ltb}
+use Rattle.std.specs.Prelude.{ℕ, ◌+◌, ◌<◌, Bool, true, not, ◌&&◌, ◌||◌, cond, List, [], ◌∷◌, ◌≡◌, refl, eqb, ltb, is_ok, Err, None, Ok, Option, Result, Some, ⊤}
 use Rattle.std.specs.Bool.{beq}
 use Rattle.std.proofs.Math.Bool.{false}
 use Rattle.std.proofs.Common.{true≢false, sym, ◌∙◌, ap, ap₂, subst, arith, eq-eqb, eqb-true, lt-ltb, ltb-true}
@@ -15,12 +15,10 @@ use Rattle.clocks.specs.declared.Clocks.{Clocks}
 use Rattle.domain.specs.declared.Domain.{Domain}
 use Rattle.clocks.specs.Clocks.{has_zero}
 use Rattle.frames.specs.Parts.{progress_at, progress_in}
-use Rattle.frames.specs.declared.Framing.{Framing}
-use Rattle.frames.specs.declared.Framing.TheVariants.{InFrame, NoFrame}
 use Rattle.frames.specs.declared.Phase.{Phase}
 use Rattle.frames.specs.declared.Phase.TheVariants.{Ack, Data, Done}
 use Rattle.waits.specs.Ends.{wait_end}
-use Rattle.iic.specs.Answers.{byte_of, guarded, refused}
+use Rattle.iic.specs.Answers.{Stepped, guarded, refused, value_of}
 use Rattle.registers.specs.Bits.{MLS, TDRE, WAIT}
 use Rattle.iic.specs.Calls.{advance_of, guard_by, input_pins_of, keep_stretched_of, peek_of, read_of, set_gate_of, take_pins_of, turn_gate_of, turn_waits_of, validate_of, visit_of, waits_refusal, write_of}
 use Rattle.iic.specs.Checks.{fell_by, progress_holds, ranges_hold}
@@ -31,17 +29,19 @@ use Rattle.iic.specs.State.{awake, initial}
 use Rattle.rates.specs.Rates.{rates_hold}
 use Rattle.rates.specs.declared.Rates.{Rates}
 use Rattle.iic.specs.Writing.{status_left, write_at, write_status_of}
-use Rattle.iic.specs.declared.Ended.{Ended}
 use Rattle.iic.specs.declared.Iic.{Iic}
 use Rattle.registers.specs.declared.Register.{Register}
 use Rattle.registers.specs.declared.Register.TheVariants.{ICCR1, ICCR2, ICDRR, ICDRT, ICIER, ICMR, ICSR, SAR}
-use Rattle.iic.specs.declared.Stepped.{Stepped}
 use Rattle.hosts.specs.Calls.{Call, peek, read, write, input_pins, set_gate, deadline, advance, pins, interrupt, interrupt_with_enable, validate, Made, call_of, outcome_of}
 use Rattle.iic.specs.Told.{Answer, refusal, of_byte}
 use Rattle.flags.specs.Invariant.{Bound, Ends, Holds, Keeps, Kept, UpToTdre, Within, bound}
 use Rattle.flags.specs.Masks.{decide, masked_missing, no_other_bits, only_these_bits, set_or, taken_out}
-use Rattle.flags.specs.StatusWrites.{BeforeAnyRead, ClearsOnlyShown, Flag, FrameToGo, Latest, Past, RaisesOnlyTdre, Ranges, ReachedStates, StatusWrites, ToGo, aas, adz, al, begin, is_set, is_status, latest_after, mask_of, nackf, next, past, rdrf, reached, showed, showing, shown, status_of, stop, tdre, tend, written}
+use Rattle.flags.specs.StatusWrites.{BeforeAnyRead, ClearsOnlyShown, Flag, FrameToGo, Latest, Past, RaisesOnlyTdre, Ranges, ReachedStates, StatusWrites, ToGo, aas, adz, al, begin, is_set, is_status, latest_after, mask_of, nackf, next, past, rdrf, reached, showing, shown, status_of, stop, tdre, tend, written}
 use Rattle.flags.proofs.Timed.{fire_clock, fire_filter, fire_monitor, fire_setup, if_ends, kick, kick_on, left, read_data, schedule_filter, then_ends, turn_clock, turn_filter, turn_monitor, turn_setup, write_at_lem}
+use Rattle.frames.specs.declared.Frame.{Frame}
+use Rattle.refusals.specs.Refusals.{before_call, of_state}
+use Rattle.refusals.specs.declared.Refusal.{Refusal}
+use Rattle.refusals.specs.declared.Refusal.TheVariants.{ZeroFrequency, Rates as WrongRates, Ranges as WrongRanges}
 
 -- ## `input_pins`, `set_gate`, `advance`
 
@@ -123,19 +123,16 @@ which a = go (is_status a) refl
 -- ## Each call
 
 -- behind the refusals that stand first
-guard_cases : (P : Stepped → Type 0) (g : ℕ) (s : Iic) (x : Stepped) → P (refused g s) → P x → P (guarded g s x)
-guard_cases P g s x r h = go (eqb g 0)
-  where
-    go : (t : Bool) → P (cond t x (refused g s))
-    go true = h
-    go false = r
+guard_cases : (P : Stepped → Type 0) (g : Result ⊤ Refusal) (s : Iic) (x : Stepped) → ((n : Refusal) → P (refused n s)) → P x → P (guarded g s x)
+guard_cases P (Ok v) s x r h = h
+guard_cases P (Err n) s x r h = r n
 
 -- what was shown after a read that ended so
-abbrev shown_by : Bool → Ended → ℕ → Latest → ℕ
-shown_by t e v was = shown (cond t (showing (of_byte (byte_of e v)) was) was)
+abbrev shown_by : Bool → Result ⊤ Refusal → ℕ → Latest → ℕ
+shown_by t e v was = shown (cond t (showing (of_byte (value_of e v)) was) was)
 
 abbrev ReadSo : Rates → Bool → ℕ → Latest → Stepped → Type 0
-ReadSo r t v was x = Kept (Within (bound r (shown_by t x.ended v was))) x.state
+ReadSo r t v was x = Kept (Within (bound r (shown_by t x.answer v was))) x.state
 
 -- an answered read of ICSR shows the byte that `seen` now is
 read_at_lem : (given : Rates) (r : Register) (was : Latest) (now : Time) (system : Domain) (s : Iic) → Kept (Within (bound given (shown was))) s
@@ -151,21 +148,21 @@ read_at_lem given ICDRT was now system s h = h
 read_at_lem given ICDRR was now system s h = (read_data (bound given (shown was)) now system s h).kept
 
 -- a refused one shows nothing
-unread : (given : Rates) (t : Bool) (v n : ℕ) (was : Latest) (s : Iic) → Kept (Within (bound given (shown was))) s
+unread : (given : Rates) (t : Bool) (v : ℕ) (n : Refusal) (was : Latest) (s : Iic) → Kept (Within (bound given (shown was))) s
     → ReadSo given t v was (refused n s)
 unread given true v n was s h = h
 unread given false v n was s h = h
 
-read_holds : (given : Rates) (a g : ℕ) (was : Latest) (now : Time) (system : Domain) (s : Iic) → Kept (Within (bound given (shown was))) s
+read_holds : (given : Rates) (a : ℕ) (g : Result ⊤ Refusal) (was : Latest) (now : Time) (system : Domain) (s : Iic) → Kept (Within (bound given (shown was))) s
     → ReadSo given (is_status a) (peek_of s a) was (guarded g s (read_at (register_at a) now system s))
 unfolding peek_of
 read_holds given a g was now system s h =
     let v : ℕ = peek_at (register_at a) s in
-    guard_cases (ReadSo given (is_status a) v was) g s (read_at (register_at a) now system s) (unread given (is_status a) v g was s h)
+    guard_cases (ReadSo given (is_status a) v was) g s (read_at (register_at a) now system s) (λ n. unread given (is_status a) v n was s h)
     (subst (λ (t : Bool). ReadSo given t v was (read_at (register_at a) now system s)) (which a) (read_at_lem given (register_at a) was now system s h))
 
-guard_ends : (b : Bound) (g : ℕ) (s : Iic) (x : Stepped) → Kept (Within b) s → Ends (Within b) x → Kept (Within b) (guarded g s x).state
-guard_ends b g s x h e = guard_cases (λ (o : Stepped). Kept (Within b) o.state) g s x h e.kept
+guard_ends : (b : Bound) (g : Result ⊤ Refusal) (s : Iic) (x : Stepped) → Kept (Within b) s → Ends (Within b) x → Kept (Within b) (guarded g s x).state
+guard_ends b g s x h e = guard_cases (λ (o : Stepped). Kept (Within b) o.state) g s x (λ n. h) e.kept
 
 holds_next : (r : Rates) (k : Clocks) (x : Call) (p : Past) → Holds r p → Holds r (next k x p)
 unfolding next outcome_of read_of write_of input_pins_of set_gate_of advance_of
@@ -240,7 +237,7 @@ raised_tdre b status seen r h f = (
 abbrev Does : ℕ → ℕ → Iic → Stepped → Type 0
 Does b value s x = ClearsOnlyShown b value (status_of s) (status_of x.state) × RaisesOnlyTdre (status_of s) (status_of x.state)
 
-unwritten : (b value n : ℕ) (s : Iic) → Does b value s (refused n s)
+unwritten : (b value : ℕ) (n : Refusal) (s : Iic) → Does b value s (refused n s)
 unwritten b value n s = (λ f e g. absurd (true≢false (sym e ∙ g)), λ f e g. absurd (false≢true (sym e ∙ g)))
 
 status_written_lem : (b : Bound) (value : ℕ) (now : Time) (system : Domain) (s : Iic) → Kept (Within b) s
@@ -267,8 +264,8 @@ unfolding outcome_of write_of
 status_writes_lem r k l a value now e =
     let p = reached r k l in
     let b : ℕ = shown p.latest in
-    let g : ℕ = guard_by (has_zero k) p.state in
-    guard_cases (Does b value p.state) g p.state (write_at (register_at a) value now k.system p.state) (unwritten b value g p.state)
+    let g : Result ⊤ Refusal = guard_by (has_zero k) p.state in
+    guard_cases (Does b value p.state) g p.state (write_at (register_at a) value now k.system p.state) (λ n. unwritten b value n p.state)
     (subst (λ (at : Register). Does b value p.state (write_at at value now k.system p.state)) (sym (chosen a e))
     (status_written_lem (bound r b) value now k.system p.state (holds_reached r k l)))
 
@@ -289,21 +286,20 @@ progress_at_lem Data n g = ap₂ ◌&&◌ (lt-ltb 0 n g.0) (lt-ltb n 9 (omega (a
 progress_at_lem Ack n g = eq-eqb n 0 g
 progress_at_lem Done n g = eq-eqb n 0 g
 
-progress_in_lem : (fr : Framing) → FrameToGo fr → progress_in fr ≡ true
-progress_in_lem NoFrame g = refl
-progress_in_lem (InFrame f) g = progress_at_lem f.phase f.remaining g
+progress_in_lem : (fr : Option Frame) → FrameToGo fr → progress_in fr ≡ true
+progress_in_lem None g = refl
+progress_in_lem (Some f) g = progress_at_lem f.phase f.remaining g
 
 guard_met : (zero : Bool) (s : Iic) → ranges_hold s ≡ true → progress_holds s ≡ true
-    → guard_by zero s ≡ cond zero 1 (cond (not (rates_hold s.rates)) 14 0)
+    → guard_by zero s ≡ cond zero (Err ZeroFrequency) (cond (not (rates_hold s.rates)) (Err WrongRates) (Ok tt))
 guard_met zero s x y =
-    ap₂ (λ (t u : Bool). cond zero 1 (cond (not (rates_hold s.rates)) 14 (cond (not t) 9 (cond (not u) 10 0)))) x y
+    ap₂ (λ (t u : Bool). before_call zero (rates_hold s.rates) t u) x y
 
 valid_met : (now : Time) (s : Iic) → ranges_hold s ≡ true → progress_holds s ≡ true
-    → validate_of s now ≡ cond (not (rates_hold s.rates)) 14 (cond (not (fell_by s.eighth_fall now)) 9 (waits_refusal s))
+    → validate_of s now ≡ cond (not (rates_hold s.rates)) (Err WrongRates) (cond (not (fell_by s.eighth_fall now)) (Err WrongRanges) (waits_refusal s))
 unfolding validate_of
 valid_met now s x y =
-    ap₂ (λ (t u : Bool). cond (not (rates_hold s.rates)) 14
-    (cond (not (t && fell_by s.eighth_fall now)) 9 (cond (not u) 10 (waits_refusal s)))) x y
+    ap₂ (λ (t u : Bool). of_state (rates_hold s.rates) (t && fell_by s.eighth_fall now) u (waits_refusal s)) x y
 
 pub reached_states_lem : ReachedStates
 reached_states_lem r k l =
@@ -316,9 +312,9 @@ reached_states_lem r k l =
       ranges = h.1;
       frame = h.2;
       given = given;
-      guard = guard_met (has_zero k) s ranges progress ∙ ap (λ (x : Rates). cond (has_zero k) 1 (cond (not (rates_hold x)) 14 0)) given;
+      guard = guard_met (has_zero k) s ranges progress ∙ ap (λ (x : Rates). before_call (has_zero k) (rates_hold x) true true) given;
       valid = λ now. valid_met now s ranges progress
-          ∙ ap (λ (x : Rates). cond (not (rates_hold x)) 14 (cond (not (fell_by s.eighth_fall now)) 9 (waits_refusal s))) given;
+          ∙ ap (λ (x : Rates). of_state (rates_hold x) (fell_by s.eighth_fall now) true (waits_refusal s)) given;
     }
 
 -- ## The rate set
@@ -337,7 +333,7 @@ every adz = refl
 pub handed_on : (k : Clocks) (x : Call) (s : Iic) → Ranges s → FrameToGo s.frame → (outcome_of k x s).state.rates ≡ s.rates
 unfolding next
 handed_on k x s ranges frame =
-    (holds_next s.rates k x (record { state = s; latest = showed 0xff }) ((λ f e. every f, refl), ranges, frame)).0.1
+    (holds_next s.rates k x (record { state = s; latest = Some 0xff }) ((λ f e. every f, refl), ranges, frame)).0.1
 
 ranges_met : (s : Iic) → s.registers.mode < 256 → ranges_hold s ≡ true → Ranges s
 ranges_met s byte h =
@@ -355,22 +351,23 @@ to_go_met Data n h =
 to_go_met Ack n h = eqb-true n 0 h
 to_go_met Done n h = eqb-true n 0 h
 
-frame_met : (fr : Framing) → progress_in fr ≡ true → FrameToGo fr
-frame_met NoFrame h = tt
-frame_met (InFrame f) h = to_go_met f.phase f.remaining h
+frame_met : (fr : Option Frame) → progress_in fr ≡ true → FrameToGo fr
+frame_met None h = tt
+frame_met (Some f) h = to_go_met f.phase f.remaining h
 
 -- 9 or 10 is drawn, or what comes before it
-drawn : (zero rates ranges progress : Bool) → (ranges && progress) ≡ false → eqb (cond zero 1 (cond (not rates) 14 (cond (not ranges) 9 (cond (not progress) 10 0)))) 0 ≡ false
+drawn : (zero rates ranges progress : Bool) → (ranges && progress) ≡ false → is_ok (before_call zero rates ranges progress) ≡ false
 drawn true rates ranges progress e = refl
 drawn false false ranges progress e = refl
 drawn false true false progress e = refl
 drawn false true true false e = refl
 drawn false true true true e = absurd (true≢false e)
 
-held : (g : ℕ) (s : Iic) (o : Stepped) → eqb g 0 ≡ false → (guarded g s o).state ≡ s
-held g s o e = ap (λ (b : Bool). (cond b o (refused g s)).state) e
+held : (g : Result ⊤ Refusal) (s : Iic) (o : Stepped) → is_ok g ≡ false → (guarded g s o).state ≡ s
+held (Ok v) s o e = absurd (true≢false e)
+held (Err n) s o e = refl
 
-refused_same : (k : Clocks) (x : Call) (s : Iic) → eqb (guard_by (has_zero k) s) 0 ≡ false → (outcome_of k x s).state ≡ s
+refused_same : (k : Clocks) (x : Call) (s : Iic) → is_ok (guard_by (has_zero k) s) ≡ false → (outcome_of k x s).state ≡ s
 unfolding outcome_of read_of write_of input_pins_of set_gate_of advance_of
 refused_same k (peek a) s e = refl
 refused_same k (read a now) s e = held (guard_by (has_zero k) s) s (read_at (register_at a) now k.system s) e

@@ -1,6 +1,6 @@
 -- Laws: each step of the peripheral in time keeps the invariant, answered or refused. No length of a wait and no count of a clock is looked into.
 -- Assumes nothing.
-use Rattle.std.specs.Prelude.{ℕ, ◌+◌, ◌*◌, ◌-◌, Bool, ◌&&◌, cond}
+use Rattle.std.specs.Prelude.{ℕ, ◌+◌, ◌*◌, ◌-◌, Bool, ◌&&◌, cond, Err, None, Ok, Option, Result, Some, false, true, ⊤}
 use Rattle.std.proofs.Math.Bool.{true, false, not}
 use Rattle.std.specs.Int.Bits.{bit_and, bit_or}
 use Rattle.bus.specs.Bits.{has}
@@ -8,30 +8,17 @@ use Rattle.bus.specs.declared.Levels.{Levels}
 use Rattle.time.specs.declared.Time.{Time}
 use Rattle.clocks.specs.declared.Clocks.{Clocks}
 use Rattle.domain.specs.declared.Domain.{Domain}
-use Rattle.clocks.specs.declared.wait.Deadline.{Deadline}
-use Rattle.clocks.specs.declared.wait.NewWait.{NewWait}
-use Rattle.clocks.specs.declared.wait.NewWait.TheVariants as wait
 use Rattle.counts.specs.Counts.{fits}
 use Rattle.clocks.specs.System.{system_after}
 use Rattle.frames.specs.Parts.{is_done, starved}
 use Rattle.frames.specs.declared.Frame.{Frame}
-use Rattle.frames.specs.declared.Framing.{Framing}
-use Rattle.frames.specs.declared.Framing.TheVariants.{InFrame, NoFrame}
 use Rattle.frames.specs.declared.Phase.{Phase}
 use Rattle.frames.specs.declared.Phase.TheVariants.{Ack, Data, Done}
-use Rattle.waits.specs.declared.Due.{Due}
-use Rattle.waits.specs.declared.Due.TheVariants as due
-use Rattle.waits.specs.declared.MaybeHalf.{MaybeHalf}
-use Rattle.waits.specs.declared.MaybeHalf.TheVariants.{NoHalf, Half}
-use Rattle.waits.specs.declared.MaybeWait.{MaybeWait}
-use Rattle.waits.specs.declared.MaybeWait.TheVariants.{NoWait, Waiting}
-use Rattle.waits.specs.declared.NewHalf.{NewHalf}
-use Rattle.waits.specs.declared.NewHalf.TheVariants as half
 use Rattle.waits.specs.Ends.{due_of, half_end, turn_half, turn_wait}
 use Rattle.waits.specs.Half.{half_after, made_half}
 use Rattle.rates.specs.Rates.{monitor_halves, period_of, setup_cycles}
 use Rattle.rates.specs.declared.Rates.{Rates}
-use Rattle.iic.specs.Answers.{and_then, go_on}
+use Rattle.iic.specs.Answers.{Stepped, and_then, go_on}
 use Rattle.registers.specs.Bits.{BBSY, IICRST, RDRF, TDRE, TEND}
 use Rattle.iic.specs.Clocking.{clock_step_of, filter_fires_of, fire_clock_of, fire_filter_of, fire_monitor_of, fire_setup_of, firing, monitor_step_of, stretch_of, toggle_of}
 use Rattle.iic.specs.Conditions.{begun_of, bus_edge_of, clocked_of, condition_high, is_start_hold, raised_of}
@@ -41,23 +28,21 @@ use Rattle.iic.specs.Filter.{filter_pass_of}
 use Rattle.iic.specs.Kick.{begin_condition_of, clock_frame_of, command_in, kick_of, launch_in, launch_of, release_hold_of, wait_after_hold_of}
 use Rattle.iic.specs.Reading.{continued_of, read_data_of, resumed_of, taken_of}
 use Rattle.iic.specs.Ready.{clock_due, command_ready, level_at, low_half_of, next_frame_of, ready}
-use Rattle.iic.specs.Setters.{set_clock_wait, set_command, set_filter_wait, set_hold, set_monitor_wait, set_synchronized_hold}
+use Rattle.iic.specs.Setters.{set_clock_wait, set_command, set_filter_wait, set_hold, set_monitor_wait, set_setup_wait, set_synchronized_hold}
 use Rattle.iic.specs.Shift.{load_transmit_of}
 use Rattle.iic.specs.State.{commanded, conditioned, drive_scl, enabled, held, is_transmit_hold, master, transmits}
-use Rattle.iic.specs.Waiting.{clock_from, filter_from, monitor_from, schedule_filter_of, setup_from, start_clock_of, start_monitor_of, start_setup_of, turn_clock_of, turn_filter_of, turn_half_in, turn_monitor_of, turn_setup_of, turn_wait_in, wants_filter}
+use Rattle.iic.specs.Waiting.{at_wait, clock_from, filter_from, monitor_from, schedule_filter_of, setup_from, start_clock_of, start_monitor_of, start_setup_of, turn_clock_of, turn_filter_of, turn_monitor_of, turn_setup_of, wait_from, wants_filter}
 use Rattle.iic.specs.Writing.{control_taken, give_data_of, out_of_reset_of, pull_sda_of, send_on_of, status_left, stop_receive_of, take_control_of, takes_command, write_address_of, write_at, write_command_of, write_control_of, write_data_of, write_enable_of, write_status_of}
-use Rattle.iic.specs.declared.Command.{Command}
-use Rattle.iic.specs.declared.Command.TheVariants.{Commanded, NoCommand}
-use Rattle.iic.specs.declared.Ended.{Ended}
-use Rattle.iic.specs.declared.Ended.TheVariants.{Finished, Refused}
 use Rattle.iic.specs.declared.Hold.TheVariants.{NoHold, Transmit}
 use Rattle.iic.specs.declared.Iic.{Iic}
 use Rattle.registers.specs.declared.Register.{Register}
 use Rattle.registers.specs.declared.Register.TheVariants.{ICCR1, ICCR2, ICDRR, ICDRT, ICIER, ICMR, ICSR, SAR}
-use Rattle.iic.specs.declared.Stepped.{Stepped}
 use Rattle.flags.specs.Invariant.{Bound, Ends, Fact, Keeps, Kept, Within}
 use Rattle.flags.specs.Masks.{masked_set}
 use Rattle.flags.proofs.Untimed.{any_status, begun_kept, bus_kept, clocked_kept, continued_kept, control_kept, end_kept, fall_data_kept, fall_idle_kept, fall_taken_kept, follow_kept, hold_kept, load_kept, mode_kept, next_kept, pull_kept, raised_kept, reset_kept, rising_kept, show_kept, stop_kept}
+use Rattle.clocks.specs.declared.wait.ClockWait.{ClockWait}
+use Rattle.refusals.specs.declared.Refusal.{Refusal}
+use Rattle.waits.specs.declared.HalfWait.{HalfWait}
 
 -- ## How steps end
 
@@ -72,34 +57,40 @@ module _ {P : Fact} where
 
   -- the Rust's `?`
   pub then_ends : {x : Stepped} {f : Iic → Stepped} → Ends P x → Keeps P f → Ends P (and_then x f)
-  then_ends {x} {f} h g = go x.ended
+  then_ends {x} {f} h g = go x.answer
     where
-      go : (e : Ended) → Ends P (go_on e x f)
-      go Finished = g x.state h.kept
-      go (Refused n) = h
+      go : (e : Result ⊤ Refusal) → Ends P (go_on e x f)
+      go (Ok v) = g x.state h.kept
+      go (Err n) = h
 
   -- what a wait brings
-  firing_ends : (d : Due) {x : Stepped} (u : Iic) → Kept P u → Ends P x → Ends P (firing d u x)
-  firing_ends due.Now u h g = g
-  firing_ends due.NotNow u h g = left h
-  firing_ends (due.Refused n) u h g = left h
+  firing_ends : (d : Result Bool Refusal) {x : Stepped} (u : Iic) → Kept P u → Ends P x → Ends P (firing d u x)
+  firing_ends (Ok true) u h g = g
+  firing_ends (Ok false) u h g = left h
+  firing_ends (Err n) u h g = left h
 
   -- a wait that was made is the state's
-  clock_from_lem : (w : NewHalf) → Keeps P (clock_from w)
-  clock_from_lem (half.Made v) u h = left h
-  clock_from_lem (half.Refused n) u h = left h
+  wait_from_lem : {W : Type 0} (set : Option W → Iic → Iic) → ((v : W) (u : Iic) → Kept P u → Kept P (set (Some v) u))
+      → (w : Result W Refusal) → Keeps P (wait_from set w)
+  wait_from_lem set keeps (Ok v) u h = left (keeps v u h)
+  wait_from_lem set keeps (Err n) u h = left h
 
-  monitor_from_lem : (w : NewHalf) → Keeps P (monitor_from w)
-  monitor_from_lem (half.Made v) u h = left h
-  monitor_from_lem (half.Refused n) u h = left h
+  clock_from_lem : (w : Result HalfWait Refusal) → Keeps P (clock_from w)
+  clock_from_lem w u h = wait_from_lem set_clock_wait (λ v t g. g) w u h
 
-  filter_from_lem : (w : NewWait) → Keeps P (filter_from w)
-  filter_from_lem (wait.Made v) u h = left h
-  filter_from_lem (wait.Refused n) u h = left h
+  monitor_from_lem : (w : Result HalfWait Refusal) → Keeps P (monitor_from w)
+  monitor_from_lem w u h = wait_from_lem set_monitor_wait (λ v t g. g) w u h
 
-  setup_from_lem : (w : NewWait) → Keeps P (setup_from w)
-  setup_from_lem (wait.Made v) u h = left h
-  setup_from_lem (wait.Refused n) u h = left h
+  filter_from_lem : (w : Result ClockWait Refusal) → Keeps P (filter_from w)
+  filter_from_lem w u h = wait_from_lem set_filter_wait (λ v t g. g) w u h
+
+  setup_from_lem : (w : Result ClockWait Refusal) → Keeps P (setup_from w)
+  setup_from_lem w u h = wait_from_lem set_setup_wait (λ v t g. g) w u h
+
+  -- a step of a wait, where there is one
+  at_wait_lem : {W : Type 0} (w : Option W) (f : W → Iic → Stepped) → ((v : W) → Keeps P (f v)) → Keeps P (at_wait w f)
+  at_wait_lem None f keeps u h = left h
+  at_wait_lem (Some w) f keeps u h = keeps w u h
 
 -- ## Waits, and `kick`: any fact that a raised TDRE keeps
 
@@ -122,24 +113,16 @@ module _ (P : Fact) (now : Time) (system : Domain) where
 
   pub turn_clock : (gate : Bool) → Keeps P (turn_clock_of gate now system)
   unfolding turn_clock_of
-  turn_clock gate u h = go u.clock_wait
-    where
-      go : (w : MaybeHalf) → Ends P (turn_half_in clock_from gate now system w u)
-      go NoHalf = left h
-      go (Half w) = clock_from_lem (turn_half gate now system w) u h
+  turn_clock gate u h = at_wait_lem u.clock_wait (λ w. clock_from (turn_half gate now system w)) (λ w. clock_from_lem (turn_half gate now system w)) u h
 
   pub turn_monitor : (gate : Bool) → Keeps P (turn_monitor_of gate now system)
   unfolding turn_monitor_of
-  turn_monitor gate u h = go u.monitor_wait
-    where
-      go : (w : MaybeHalf) → Ends P (turn_half_in monitor_from gate now system w u)
-      go NoHalf = left h
-      go (Half w) = monitor_from_lem (turn_half gate now system w) u h
+  turn_monitor gate u h = at_wait_lem u.monitor_wait (λ w. monitor_from (turn_half gate now system w)) (λ w. monitor_from_lem (turn_half gate now system w)) u h
 
   module _ (tdre : (status seen : ℕ) (r : Rates) → P status seen r → P (bit_or status TDRE) seen r) where
-    command_in_lem : (c : Command) → Keeps P (command_in c now system)
-    command_in_lem NoCommand u h = left h
-    command_in_lem (Commanded start) u h = start_clock (begun_of start u) (begun_kept P start u h)
+    command_in_lem : (c : Option Bool) → Keeps P (command_in c now system)
+    command_in_lem None u h = left h
+    command_in_lem (Some start) u h = start_clock (begun_of start u) (begun_kept P start u h)
 
     launch : (f : Frame) → Keeps P (launch_of f now system)
     unfolding launch_of low_half_of
@@ -147,9 +130,9 @@ module _ (P : Fact) (now : Time) (system : Domain) where
         if_ends (is_done f.phase) (left h)
         (if_ends (starved f) (left (hold_kept P Transmit u h)) (start_clock (low_half_of (level_at f.phase f u) u) h))
 
-    launch_in_lem : (fr : Framing) → Keeps P (launch_in fr now system)
-    launch_in_lem NoFrame u h = left h
-    launch_in_lem (InFrame f) u h = launch f u h
+    launch_in_lem : (fr : Option Frame) → Keeps P (launch_in fr now system)
+    launch_in_lem None u h = left h
+    launch_in_lem (Some f) u h = launch f u h
 
     clock_frame : Keeps P (clock_frame_of now system)
     unfolding clock_frame_of
@@ -166,19 +149,11 @@ module _ (P : Fact) (now : Time) (system : Domain) where
 module _ (P : Fact) (now : Time) (k : Clocks) where
   pub turn_filter : (gate : Bool) → Keeps P (turn_filter_of gate now k)
   unfolding turn_filter_of
-  turn_filter gate u h = go u.filter_wait
-    where
-      go : (w : MaybeWait) → Ends P (turn_wait_in filter_from gate now k w u)
-      go NoWait = left h
-      go (Waiting w) = filter_from_lem (turn_wait gate now k w) u h
+  turn_filter gate u h = at_wait_lem u.filter_wait (λ w. filter_from (turn_wait gate now k w)) (λ w. filter_from_lem (turn_wait gate now k w)) u h
 
   pub turn_setup : (gate : Bool) → Keeps P (turn_setup_of gate now k)
   unfolding turn_setup_of
-  turn_setup gate u h = go u.setup_wait
-    where
-      go : (w : MaybeWait) → Ends P (turn_wait_in setup_from gate now k w u)
-      go NoWait = left h
-      go (Waiting w) = setup_from_lem (turn_wait gate now k w) u h
+  turn_setup gate u h = at_wait_lem u.setup_wait (λ w. setup_from (turn_wait gate now k w)) (λ w. setup_from_lem (turn_wait gate now k w)) u h
 
 -- ## The others, with `seen` within a byte and one rate set
 
@@ -203,9 +178,9 @@ module _ (b : Bound) (now : Time) (system : Domain) where
 
   -- ## What filtered levels bring
 
-  longer_ends : (w : MaybeHalf) → Keeps (Within b) (longer w)
-  longer_ends NoHalf u h = left h
-  longer_ends (Half w) u h = clock_from_lem (made_half w.paused (fits (w.count + 4 * period_of u.rates u.registers.control))) u h
+  longer_ends : (w : Option HalfWait) → Keeps (Within b) (longer w)
+  longer_ends None u h = left h
+  longer_ends (Some w) u h = clock_from_lem (made_half w.paused (fits (w.count + 4 * period_of u.rates u.registers.control))) u h
 
   insert_wait : Keeps (Within b) insert_wait_of
   unfolding insert_wait_of
@@ -217,9 +192,9 @@ module _ (b : Bound) (now : Time) (system : Domain) where
   fall_at_lem Ack f u h = insert_wait (fall_taken_of f now u) (fall_taken_kept b f now u h)
   fall_at_lem Done f u h = left h
 
-  fall_in_lem : (fr : Framing) → Keeps (Within b) (fall_in fr now)
-  fall_in_lem NoFrame u h = left (fall_idle_kept b u h)
-  fall_in_lem (InFrame f) u h = fall_at_lem f.phase f u h
+  fall_in_lem : (fr : Option Frame) → Keeps (Within b) (fall_in fr now)
+  fall_in_lem None u h = left (fall_idle_kept b u h)
+  fall_in_lem (Some f) u h = fall_at_lem f.phase f u h
 
   fall_on_lem : Keeps (Within b) (fall_on now)
   unfolding fall_of
@@ -274,13 +249,13 @@ module _ (b : Bound) (now : Time) (system : Domain) where
   filter_fires : Keeps (Within b) (filter_fires_of now system)
   unfolding filter_fires_of filter_pass_of
   filter_fires u h =
-      then_ends (filtered_edges u.lines.filtered (set_filter_wait NoWait (filter_pass_of u)) h) (schedule_filter (Within b) now system)
+      then_ends (filtered_edges u.lines.filtered (set_filter_wait None (filter_pass_of u)) h) (schedule_filter (Within b) now system)
 
-  pub fire_filter : (end : Deadline) → Keeps (Within b) (fire_filter_of end now system)
+  pub fire_filter : (end : Result (Option Time) Refusal) → Keeps (Within b) (fire_filter_of end now system)
   unfolding fire_filter_of
   fire_filter end u h = firing_ends (due_of end now) u h (filter_fires u h)
 
-  pub fire_setup : (end : Deadline) → Keeps (Within b) (fire_setup_of end now)
+  pub fire_setup : (end : Result (Option Time) Refusal) → Keeps (Within b) (fire_setup_of end now)
   unfolding fire_setup_of
   fire_setup end u h = firing_ends (due_of end now) u h (left h)
 
@@ -290,11 +265,11 @@ module _ (b : Bound) (now : Time) (system : Domain) where
 
   pub fire_monitor : Keeps (Within b) (fire_monitor_of now system)
   unfolding fire_monitor_of
-  fire_monitor u h = firing_ends (due_of (half_end u.monitor_wait system) now) u h (stretch (set_monitor_wait NoHalf u) h)
+  fire_monitor u h = firing_ends (due_of (half_end u.monitor_wait system) now) u h (stretch (set_monitor_wait None u) h)
 
   pub fire_clock : Keeps (Within b) (fire_clock_of now system)
   unfolding fire_clock_of
-  fire_clock u h = firing_ends (due_of (half_end u.clock_wait system) now) u h (clock_step (set_clock_wait NoHalf u) h)
+  fire_clock u h = firing_ends (due_of (half_end u.clock_wait system) now) u h (clock_step (set_clock_wait None u) h)
 
   -- ## Registers
 
@@ -325,7 +300,7 @@ module _ (b : Bound) (now : Time) (system : Domain) where
   unfolding out_of_reset_of
   out_of_reset value u h =
       let p = pull_kept b value u h in
-      if_ends (takes_command value (pull_sda_of value u)) (kick_on (set_command (Commanded (has value BBSY)) (pull_sda_of value u)) p) (left p)
+      if_ends (takes_command value (pull_sda_of value u)) (kick_on (set_command (Some (has value BBSY)) (pull_sda_of value u)) p) (left p)
 
   write_command : (value : ℕ) → Keeps (Within b) (write_command_of value now system)
   unfolding write_command_of

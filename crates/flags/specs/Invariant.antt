@@ -2,9 +2,9 @@
 use Rattle.std.specs.Prelude.{ℕ, true, false, ◌≡◌}
 use Rattle.registers.specs.Bits.{TDRE}
 use Rattle.iic.specs.declared.Iic.{Iic}
-use Rattle.iic.specs.declared.Stepped.{Stepped}
 use Rattle.rates.specs.declared.Rates.{Rates}
 use Rattle.flags.specs.StatusWrites.{Flag, FrameToGo, Past, Ranges, is_set, mask_of, shown}
+use Rattle.iic.specs.Answers.{Stepped}
 
 -- a fact on ICSR, `seen` and the rate set
 abbrev pub Fact : Type 1

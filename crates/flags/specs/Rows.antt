@@ -1,7 +1,7 @@
 -- Laws: status writes worked out, as one table with one fact: what the latest answered read of ICSR had shown, ICSR before and after the write, and how
 -- the write ended. They show that StatusWrites.antt says neither too little nor too much. Below the table stands a write that is refused in its midst,
 -- over a clock set whose count is too large to be doubled.
-use Rattle.std.specs.Prelude.{ℕ, ◌+◌, ◌^◌, true, false, List, [], ◌∷◌, ◌++◌, map, ◌≡◌, refl}
+use Rattle.std.specs.Prelude.{ℕ, ◌+◌, ◌^◌, true, false, List, [], ◌∷◌, ◌++◌, map, ◌≡◌, refl, Err, None, Result, Some}
 use Rattle.std.proofs.Common.{ap, lit<}
 use Rattle.bus.specs.Bus.{levels}
 use Rattle.time.specs.declared.Time.{Time}
@@ -15,13 +15,10 @@ use Rattle.clocks.specs.Clocks as Clocks
 use Rattle.domain.specs.Domain as Domain
 use Rattle.frames.specs.Mirror as Mirror
 use Rattle.frames.specs.Parts as Parts
-use Rattle.frames.specs.declared.Framing.TheVariants.{InFrame}
 use Rattle.waits.specs.Half as Half
 use Rattle.waits.specs.Half.{half_after}
 use Rattle.rates.specs.Rates as Rates
 use Rattle.rates.specs.Rates.{default_rates}
-use Rattle.waits.specs.declared.NewHalf.{NewHalf}
-use Rattle.waits.specs.declared.NewHalf.TheVariants as half
 use Rattle.iic.specs.Calls as Iic
 use Rattle.iic.specs.Kick as Kick
 use Rattle.iic.specs.Reading as Reading
@@ -41,7 +38,10 @@ use Rattle.iic.specs.Told.{Answer, nothing, refusal}
 use Rattle.hosts.specs.ClockRows.{begun, of_step}
 use Rattle.hosts.specs.Rows.{at, clock_set, made, still}
 use Rattle.flags.specs.StatusWrites as Flags
-use Rattle.flags.specs.StatusWrites.{Latest, no_read, showed, before, reached, written}
+use Rattle.flags.specs.StatusWrites.{Latest, before, reached, written}
+use Rattle.refusals.specs.declared.Refusal.{Refusal}
+use Rattle.waits.specs.declared.HalfWait.{HalfWait}
+use Rattle.refusals.specs.declared.Refusal.TheVariants.{Overflow}
 
 -- ## Clock sets
 
@@ -95,33 +95,33 @@ row l a v s w i = record { clocks = still; made_by = made l; address = a; value 
 abbrev rows : List Row
 rows =
     -- shown and written 0: cleared; by any address whose bits 0 to 2 are 4
-    row (ready ++ (read 4 (at 0) ∷ [])) 4 0x00 (showed 0x80) 0x80 0x00
-    ∷ row (ready ++ (read 0xc (at 0) ∷ [])) 0x14 0x7f (showed 0x80) 0x80 0x00
+    row (ready ++ (read 4 (at 0) ∷ [])) 4 0x00 (Some 0x80) 0x80 0x00
+    ∷ row (ready ++ (read 0xc (at 0) ∷ [])) 0x14 0x7f (Some 0x80) 0x80 0x00
     -- before any read nothing is cleared; `peek` is no read, nor is a read of another register
-    ∷ row ready 4 0x00 no_read 0x80 0x80
-    ∷ row (ready ++ (peek 4 ∷ [])) 4 0x00 no_read 0x80 0x80
-    ∷ row (ready ++ (read 5 (at 0) ∷ [])) 4 0x00 no_read 0x80 0x80
+    ∷ row ready 4 0x00 None 0x80 0x80
+    ∷ row (ready ++ (peek 4 ∷ [])) 4 0x00 None 0x80 0x80
+    ∷ row (ready ++ (read 5 (at 0) ∷ [])) 4 0x00 None 0x80 0x80
     -- shown, but written 1
-    ∷ row (ready ++ (read 4 (at 0) ∷ [])) 4 0x80 (showed 0x80) 0x80 0x80
+    ∷ row (ready ++ (read 4 (at 0) ∷ [])) 4 0x80 (Some 0x80) 0x80 0x80
     -- read before it was raised: shown 0
-    ∷ row (read 4 (at 0) ∷ ready) 4 0x00 (showed 0x00) 0x80 0x80
+    ∷ row (read 4 (at 0) ∷ ready) 4 0x00 (Some 0x00) 0x80 0x80
     -- shown, then cleared by a write of ICDRT and raised again by TRS: it stays set, so that what was shown isn't always cleared
-    ∷ row (ready ++ (read 4 (at 0) ∷ write 6 0x55 (at 0) ∷ []) ++ again) 4 0x00 (showed 0x80) 0x80 0x80
+    ∷ row (ready ++ (read 4 (at 0) ∷ write 6 0x55 (at 0) ∷ []) ++ again) 4 0x00 (Some 0x80) 0x80 0x80
     -- shown by a read that isn't the latest
-    ∷ row (ready ++ (read 4 (at 0) ∷ write 6 0x55 (at 0) ∷ read 4 (at 0) ∷ []) ++ again) 4 0x00 (showed 0x00) 0x80 0x80
+    ∷ row (ready ++ (read 4 (at 0) ∷ write 6 0x55 (at 0) ∷ read 4 (at 0) ∷ []) ++ again) 4 0x00 (Some 0x00) 0x80 0x80
     -- the latest of two
-    ∷ row (read 4 (at 0) ∷ ready ++ (read 4 (at 0) ∷ [])) 4 0x00 (showed 0x80) 0x80 0x00
+    ∷ row (read 4 (at 0) ∷ ready ++ (read 4 (at 0) ∷ [])) 4 0x00 (Some 0x80) 0x80 0x00
     -- TDRE is cleared, ICDRT goes into the frame, and TDRE is raised again, all in one call
-    ∷ row (waiting ++ (read 4 (at 0) ∷ [])) 4 0x00 (showed 0x80) 0x80 0x80
+    ∷ row (waiting ++ (read 4 (at 0) ∷ [])) 4 0x00 (Some 0x80) 0x80 0x80
     -- TDRE is raised: a frame begins, with the byte that ICDRT holds
-    ∷ row (in_reset (write 0 0x90 (at 0) ∷ write 6 0x55 (at 0) ∷ [])) 4 0xff no_read 0x00 0x80
+    ∷ row (in_reset (write 0 0x90 (at 0) ∷ write 6 0x55 (at 0) ∷ [])) 4 0xff None 0x00 0x80
     -- a lent read is a read
     ∷ record {
       clocks = still;
       made_by = made ready ++ (lent_read 4 (at 0) ∷ lent_write 3 0x10 (at 0) ∷ []);
       address = 4;
       value = 0x00;
-      latest = showed 0x80;
+      latest = Some 0x80;
       was = 0x80;
       is = 0x00;
       says = nothing;
@@ -132,7 +132,7 @@ rows =
       made_by = made (ready ++ (read 4 (at 0) ∷ []));
       address = 4;
       value = 0x00;
-      latest = no_read;
+      latest = None;
       was = 0x00;
       is = 0x00;
       says = refusal 1;
@@ -166,7 +166,7 @@ end = at (2 ^ 63)
 counted : edges_before long.system.clock (time_of end + 1) ≡ 2 ^ 63
 counted = edges_before_is long.system.clock (time_of end + 1) (lit< tt) (lit< tt)
 
-too_many : half_after end 28 long.system ≡ half.Refused 7
+too_many : half_after end 28 long.system ≡ Err Overflow
 unfolding Half.half_after Clock.zero_in Domain.domain_half_ticks Domain.domain_ticks Domain.halves_of Clock.edges_before_of Time.earlier Time.moment_of Time.next_time
 too_many = rw counted refl
 
@@ -180,12 +180,12 @@ bare = set_control 0xa0 (set_address 0x01 (set_receive_enabled true (gated true 
 
 -- the state that it leaves
 abbrev cleared_state : Iic
-cleared_state = set_frame (InFrame (begun false)) (set_drive (levels false true) bare)
+cleared_state = set_frame (Some (begun false)) (set_drive (levels false true) bare)
 
-shown_before : reached default_rates long (made receiving) ≡ record { state = set_status 0x80 (set_seen 0x80 bare); latest = showed 0x80 }
+shown_before : reached default_rates long (made receiving) ≡ record { state = set_status 0x80 (set_seen 0x80 bare); latest = Some 0x80 }
 unfolding Clock.zero_in Clocks.has_zero Parts.redirect_frame Reading.peek_at Reading.read_at Registers.register_at Writing.control_set Writing.enter_reset_of Writing.stop_receive_of Writing.take_control_of Writing.redirected Writing.write_address_of Writing.write_at Writing.write_command_of Writing.write_control_of Iic.keep_stretched_of Iic.peek_of Iic.read_of Iic.set_gate_of Iic.turn_gate_of Iic.turn_waits_of Iic.write_of Kick.clock_frame_of Kick.kick_of Ready.next_frame_of Shift.load_transmit_of State.initial State.stop_shifter_of Waits.schedule_filter_of Waits.turn_clock_of Waits.turn_filter_of Waits.turn_monitor_of Waits.turn_setup_of Hosts.outcome_of Flags.begin Flags.next Flags.past Rates.rates_hold Rates.lengths_hold Rates.monitor_below Rates.monitor_halves Rates.period_of Rates.rate
 shown_before = refl
 
 refused_and_cleared : outcome_of long (write 4 0x00 end) (set_status 0x80 (set_seen 0x80 bare)) ≡ outcome (refusal 7) cleared_state
 unfolding Clock.zero_in Clocks.has_zero Registers.register_at Writing.write_at Writing.write_status_of Iic.write_of Kick.clock_frame_of Kick.kick_of Kick.launch_of Ready.low_half_of Ready.next_frame_of Rates.period_of Rates.rate Shift.begin_frame_of Shift.load_transmit_of State.initial Waits.start_clock_of Hosts.outcome_of Rates.rates_hold Rates.lengths_hold Rates.monitor_below Rates.monitor_halves
-refused_and_cleared = ap (λ (w : NewHalf). of_step (clock_from w cleared_state)) too_many
+refused_and_cleared = ap (λ (w : Result HalfWait Refusal). of_step (clock_from w cleared_state)) too_many

@@ -1,13 +1,11 @@
 -- Definitions: what a status write can do to the flags, and what every reached state meets: the statements of request (j) of document 02. Their
 -- proofs are `status_writes_lem`, `before_any_read_lem` and `reached_states_lem` in proofs/Runs.antt.
-use Rattle.std.specs.Prelude.{ℕ, ◌≤◌, Bool, true, false, not, cond, List, [], ◌∷◌, ◌≡◌, eqb}
+use Rattle.std.specs.Prelude.{ℕ, ◌≤◌, Bool, true, false, not, cond, List, [], ◌∷◌, ◌≡◌, eqb, Err, None, Ok, Option, Some}
 use Rattle.std.specs.Int.Bits.{bit_and}
 use Rattle.bus.specs.Bits.{has}
 use Rattle.time.specs.declared.Time.{Time}
 use Rattle.clocks.specs.declared.Clocks.{Clocks}
 use Rattle.clocks.specs.Clocks.{has_zero}
-use Rattle.frames.specs.declared.Framing.{Framing}
-use Rattle.frames.specs.declared.Framing.TheVariants.{InFrame, NoFrame}
 use Rattle.frames.specs.declared.Phase.{Phase}
 use Rattle.frames.specs.declared.Phase.TheVariants.{Ack, Data, Done}
 use Rattle.registers.specs.Bits.{AAS, ADZ, AL, NACKF, RDRF, STOP, TDRE, TEND}
@@ -19,6 +17,8 @@ use Rattle.rates.specs.declared.Rates.{Rates}
 use Rattle.iic.specs.declared.Iic.{Iic}
 use Rattle.hosts.specs.Calls.{Call, peek, read, write, input_pins, set_gate, deadline, advance, pins, interrupt, interrupt_with_enable, validate, Made, call_of, outcome_of}
 use Rattle.iic.specs.Told.{Answer, refusal, nothing, byte, bit, no_levels, the_levels, no_moment, moment}
+use Rattle.frames.specs.declared.Frame.{Frame}
+use Rattle.refusals.specs.declared.Refusal.TheVariants.{ZeroFrequency, Rates as WrongRates, Ranges as WrongRanges}
 
 -- ## Flags
 
@@ -59,18 +59,17 @@ abbrev pub is_status : ℕ → Bool
 is_status a = eqb (bit_and a 7) 4
 
 -- the byte of the latest answered read of ICSR, if there was one
-pub data Latest : Type 0 where
-  no_read : Latest
-  showed : ℕ → Latest
+abbrev pub Latest : Type 0
+Latest = Option ℕ
 
 -- which flags it showed: none before any read
 abbrev pub shown : Latest → ℕ
-shown no_read = 0x00
-shown (showed b) = b
+shown None = 0x00
+shown (Some b) = b
 
 -- an answered read shows its byte, a refused one nothing; a read answers nothing else
 abbrev pub showing : Answer → Latest → Latest
-showing (byte b) was = showed b
+showing (byte b) was = Some b
 showing (refusal n) was = was
 showing nothing was = was
 showing (bit b) was = was
@@ -101,7 +100,7 @@ pub record Past : Type 0 where
   pub latest : Latest
 
 unfoldable pub begin : Rates → Past
-begin rates = record { state = initial rates; latest = no_read }
+begin rates = record { state = initial rates; latest = None }
 
 -- one more call, whatever it answers
 unfoldable pub next : Clocks → Call → Past → Past
@@ -154,7 +153,7 @@ StatusWrites =
 abbrev pub BeforeAnyRead : Type 0
 BeforeAnyRead =
     (rates : Rates) (clocks : Clocks) (l : List Made) (a value : ℕ) (now : Time) → is_status a ≡ true
-    → (reached rates clocks l).latest ≡ no_read
+    → (reached rates clocks l).latest ≡ None
     → ClearsNothing (before rates clocks l) (written rates clocks l a value now)
 
 -- ## What every reached state meets
@@ -165,9 +164,9 @@ ToGo Data n = (1 ≤ n) × (n ≤ 8)
 ToGo Ack n = n ≡ 0
 ToGo Done n = n ≡ 0
 
-abbrev pub FrameToGo : Framing → Type 0
-FrameToGo NoFrame = Unit {0}
-FrameToGo (InFrame f) = ToGo f.phase f.remaining
+abbrev pub FrameToGo : Option Frame → Type 0
+FrameToGo None = Unit {0}
+FrameToGo (Some f) = ToGo f.phase f.remaining
 
 -- document 01, what 9 asks of the registers: a count of at most 7, and no mode bits outside c0
 abbrev pub Ranges : Iic → Type 0
@@ -180,9 +179,9 @@ pub record Met (rates : Rates) (clocks : Clocks) (s : Iic) : Type 0 where
   pub given : s.rates ≡ rates
   pub ranges : Ranges s
   pub frame : FrameToGo s.frame
-  pub guard : guard_by (has_zero clocks) s ≡ cond (has_zero clocks) 1 (cond (not (rates_hold rates)) 14 0)
+  pub guard : guard_by (has_zero clocks) s ≡ cond (has_zero clocks) (Err ZeroFrequency) (cond (not (rates_hold rates)) (Err WrongRates) (Ok tt))
   pub valid : (now : Time)
-      → validate_of s now ≡ cond (not (rates_hold rates)) 14 (cond (not (fell_by s.eighth_fall now)) 9 (waits_refusal s))
+      → validate_of s now ≡ cond (not (rates_hold rates)) (Err WrongRates) (cond (not (fell_by s.eighth_fall now)) (Err WrongRanges) (waits_refusal s))
 
 abbrev pub ReachedStates : Type 0
 ReachedStates = (rates : Rates) (clocks : Clocks) (l : List Made) → Met rates clocks (reached rates clocks l).state

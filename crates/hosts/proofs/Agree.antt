@@ -1,6 +1,6 @@
 -- Laws: two hosts agree, the proof of demand 3. Under the invariant an idle call leaves its host as it is; so the calls left are those of a
 -- run without idle calls, and two such runs over the same calls are one.
-use Rattle.std.specs.Prelude.{ℕ, zero, suc, Bool, true, false, not, ◌&&◌, ◌||◌, cond, List, [], ◌∷◌, map, ◌≡◌, refl, eqb, take}
+use Rattle.std.specs.Prelude.{ℕ, zero, suc, Bool, true, false, not, ◌&&◌, ◌||◌, cond, List, [], ◌∷◌, map, ◌≡◌, refl, take, Err, None, Ok, Option, Result, ⊤}
 use Rattle.std.specs.Bool.{beq}
 use Rattle.std.proofs.Common.{true≢false, sym, ◌∙◌, ap, ap₂, subst}
 use Rattle.std.proofs.lemmas.Bool.{false≢true}
@@ -9,21 +9,13 @@ use Rattle.bus.specs.Bus.{same_levels, levels}
 use Rattle.time.specs.declared.Time.{Time}
 use Rattle.clocks.specs.declared.Clocks.{Clocks}
 use Rattle.domain.specs.declared.Domain.{Domain}
-use Rattle.clocks.specs.declared.wait.Deadline.{Deadline}
 use Rattle.clocks.specs.Clocks.{has_zero}
 use Rattle.iic.specs.declared.Iic.{Iic}
-use Rattle.iic.specs.declared.Ended.{Ended}
-use Rattle.iic.specs.declared.Ended.TheVariants.{Finished, Refused}
-use Rattle.iic.specs.declared.Stepped.{Stepped}
-use Rattle.waits.specs.declared.Due.{Due}
-use Rattle.waits.specs.declared.Due.TheVariants as due
-use Rattle.waits.specs.declared.MaybeWait.TheVariants.{NoWait}
-use Rattle.waits.specs.declared.MaybeHalf.TheVariants.{NoHalf}
 use Rattle.registers.specs.declared.Register.{Register}
 use Rattle.registers.specs.declared.Register.TheVariants.{ICCR1, ICCR2, ICMR, ICIER, ICSR, SAR, ICDRT, ICDRR}
 use Rattle.registers.specs.Registers.{register_at}
 use Rattle.iic.specs.Reading.{read_at}
-use Rattle.iic.specs.Answers.{fine, go_on, and_then, guarded}
+use Rattle.iic.specs.Answers.{Stepped, and_then, fine, go_on, guarded}
 use Rattle.iic.specs.Calls.{guard_by, take_pins_of, turn_gate_of, visit_of, read_of, input_pins_of, set_gate_of, advance_of}
 use Rattle.iic.specs.Clocking.{firing, filter_fires_of, stretch_of, clock_step_of, fire_filter_of, fire_setup_of, fire_monitor_of, fire_clock_of}
 use Rattle.iic.specs.Kick.{kick_of}
@@ -39,41 +31,42 @@ use Rattle.iic.specs.Settled.{settled}
 use Rattle.hosts.proofs.Kept.{good_after}
 use Rattle.iic.specs.SettledLaws.{settled_kick}
 use Rattle.time.specs.Truths.{and_left, and_right, or_left, or_right, not_so}
+use Rattle.refusals.specs.declared.Refusal.{Refusal}
 
 -- ## An idle call leaves the host as it is
 
-guarded_same : (g : ℕ) (s : Iic) (o : Stepped) (b : Bool) → eqb g 0 ≡ b → o.state ≡ s → (guarded g s o).state ≡ s
-guarded_same g s o true e h = rw e h
-guarded_same g s o false e h = rw e
+guarded_same : (g : Result ⊤ Refusal) (s : Iic) (o : Stepped) → o.state ≡ s → (guarded g s o).state ≡ s
+guarded_same (Ok v) s o h = h
+guarded_same (Err n) s o h = refl
 
 then_same : (s : Iic) (o : Stepped) (f : Iic → Stepped) → o.state ≡ s → (f s).state ≡ s → (and_then o f).state ≡ s
-then_same s o f h g = go o.ended
+then_same s o f h g = go o.answer
   where
-    go : (e : Ended) → (go_on e o f).state ≡ s
-    go Finished = ap (λ (t : Iic). (f t).state) h ∙ g
-    go (Refused n) = h
+    go : (e : Result ⊤ Refusal) → (go_on e o f).state ≡ s
+    go (Ok v) = ap (λ (t : Iic). (f t).state) h ∙ g
+    go (Err n) = h
 
 -- a wait that isn't due leaves the state, also where its time is refused
-undue : (d : Due) (s : Iic) (o : Stepped) → is_now d ≡ false → (firing d s o).state ≡ s
-undue due.Now s o e = absurd (true≢false e)
-undue due.NotNow s o e = refl
-undue (due.Refused n) s o e = refl
+undue : (d : Result Bool Refusal) (s : Iic) (o : Stepped) → is_now d ≡ false → (firing d s o).state ≡ s
+undue (Ok true) s o e = absurd (true≢false e)
+undue (Ok false) s o e = refl
+undue (Err n) s o e = refl
 
-filter_undue : (end : Deadline) (now : Time) (k : Domain) (s : Iic) → is_now (due_of end now) ≡ false → (fire_filter_of end now k s).state ≡ s
+filter_undue : (end : Result (Option Time) Refusal) (now : Time) (k : Domain) (s : Iic) → is_now (due_of end now) ≡ false → (fire_filter_of end now k s).state ≡ s
 unfolding fire_filter_of
 filter_undue end now k s e = undue (due_of end now) s (filter_fires_of now k s) e
 
-setup_undue : (end : Deadline) (now : Time) (s : Iic) → is_now (due_of end now) ≡ false → (fire_setup_of end now s).state ≡ s
+setup_undue : (end : Result (Option Time) Refusal) (now : Time) (s : Iic) → is_now (due_of end now) ≡ false → (fire_setup_of end now s).state ≡ s
 unfolding fire_setup_of
-setup_undue end now s e = undue (due_of end now) s (fine (set_setup_wait NoWait (drive_scl true s))) e
+setup_undue end now s e = undue (due_of end now) s (fine (set_setup_wait None (drive_scl true s))) e
 
 monitor_undue : (now : Time) (k : Domain) (s : Iic) → is_now (due_of (half_end s.monitor_wait k) now) ≡ false → (fire_monitor_of now k s).state ≡ s
 unfolding fire_monitor_of
-monitor_undue now k s e = undue (due_of (half_end s.monitor_wait k) now) s (stretch_of now k (set_monitor_wait NoHalf s)) e
+monitor_undue now k s e = undue (due_of (half_end s.monitor_wait k) now) s (stretch_of now k (set_monitor_wait None s)) e
 
 clock_undue : (now : Time) (k : Domain) (s : Iic) → is_now (due_of (half_end s.clock_wait k) now) ≡ false → (fire_clock_of now k s).state ≡ s
 unfolding fire_clock_of
-clock_undue now k s e = undue (due_of (half_end s.clock_wait k) now) s (clock_step_of now k (set_clock_wait NoHalf s)) e
+clock_undue now k s e = undue (due_of (half_end s.clock_wait k) now) s (clock_step_of now k (set_clock_wait None s)) e
 
 undue_visit : (now : Time) (k : Clocks) (s : Iic) (b : Bool) → awake s ≡ b → settled s ≡ true → waits_due k now s ≡ false → (visit_of now k s).state ≡ s
 unfolding visit_of
@@ -121,7 +114,7 @@ gate_same gate now k s e = rw e
 
 -- a call behind the refusals that stand first
 behind : (k : Clocks) (s : Iic) (o : Stepped) → o.state ≡ s → (guarded (guard_by (has_zero k) s) s o).state ≡ s
-behind k s o h = guarded_same (guard_by (has_zero k) s) s o (eqb (guard_by (has_zero k) s) 0) refl h
+behind k s o h = guarded_same (guard_by (has_zero k) s) s o h
 
 -- where a clock of the set holds a zero the visit is refused before it looks at a wait
 visit_same : (now : Time) (k : Clocks) (s : Iic) (z : Bool) → has_zero k ≡ z → settled s ≡ true → any_due k now s ≡ false

@@ -1,6 +1,6 @@
 -- Laws: every call that isn't refused keeps the invariant of a host or makes it. A call either ends in a kick, or leaves the
 -- peripheral off, gated off or in reset, or touches nothing that a kick looks at; or it is a write that lifts the reset.
-use Rattle.std.specs.Prelude.{ℕ, Bool, true, false, not, ◌&&◌, ◌||◌, cond, ◌≡◌, refl, eqb}
+use Rattle.std.specs.Prelude.{ℕ, Bool, true, false, not, ◌&&◌, ◌||◌, cond, ◌≡◌, refl, Err, None, Ok, Option, Result, Some, ⊤}
 use Rattle.std.specs.Bool.{beq}
 use Rattle.std.proofs.Common.{true≢false, sym, ◌∙◌}
 use Rattle.std.proofs.Math.Bool.{and-false}
@@ -14,13 +14,6 @@ use Rattle.domain.specs.declared.Domain.{Domain}
 use Rattle.clocks.specs.Clocks.{has_zero}
 use Rattle.clocks.specs.System.{system_after}
 use Rattle.iic.specs.declared.Iic.{Iic}
-use Rattle.iic.specs.declared.Stepped.{Stepped}
-use Rattle.frames.specs.declared.Framing.{Framing}
-use Rattle.frames.specs.declared.Framing.TheVariants.{NoFrame, InFrame}
-use Rattle.waits.specs.declared.MaybeWait.{MaybeWait}
-use Rattle.waits.specs.declared.MaybeWait.TheVariants.{NoWait, Waiting}
-use Rattle.waits.specs.declared.MaybeHalf.{MaybeHalf}
-use Rattle.waits.specs.declared.MaybeHalf.TheVariants.{NoHalf, Half}
 use Rattle.registers.specs.declared.Register.{Register}
 use Rattle.registers.specs.declared.Register.TheVariants.{ICCR1, ICCR2, ICMR, ICIER, ICSR, SAR, ICDRT, ICDRR}
 use Rattle.iic.specs.Reading.{taken_of, continued_of}
@@ -29,23 +22,25 @@ use Rattle.iic.specs.Writing.{take_control_of, stop_receive_of, enter_reset_of, 
 use Rattle.iic.specs.Reading.{resumed_of, receive_on, read_data_of, read_at}
 use Rattle.iic.specs.Writing.{control_taken, write_control_of, command_from, out_of_reset_of, write_command_of, send_on_of, write_data_of, write_at}
 use Rattle.frames.specs.Parts.{recount_in, is_data}
-use Rattle.iic.specs.Answers.{fine, and_then, guarded}
+use Rattle.iic.specs.Answers.{Stepped, and_then, fine, guarded}
 use Rattle.registers.specs.Bits.{TDRE, NACKF, BC, BCWP, IICRST, SDAOP}
 use Rattle.iic.specs.Calls.{guard_by, peek_of, take_pins_of, keep_stretched_of, turn_waits_of, turn_gate_of, visit_of, read_of, write_of, input_pins_of, set_gate_of, advance_of}
 use Rattle.iic.specs.Filter.{observes}
 use Rattle.iic.specs.Clocking.{fire_filter_of, fire_setup_of, fire_monitor_of, fire_clock_of}
 use Rattle.iic.specs.Setters.{set_frame, set_seen, set_raw, set_gate, set_reset, set_clock_wait, set_monitor_wait, set_filter_wait, set_setup_wait}
 use Rattle.iic.specs.State.{stop_shifter_of, enabled, awake, transmits, conditioned}
-use Rattle.iic.specs.Waiting.{wants_filter, schedule_filter_of, filter_from, half_from, turn_clock_of, turn_filter_of, turn_half_in, turn_monitor_of, turn_setup_of, turn_wait_in, wait_from}
+use Rattle.iic.specs.Waiting.{wants_filter, schedule_filter_of, filter_from, at_wait, turn_clock_of, turn_filter_of, turn_monitor_of, turn_setup_of, wait_from}
 use Rattle.waits.specs.Ends.{turn_half, turn_wait, wait_end}
 use Rattle.hosts.specs.Calls.{Call, peek, read, write, input_pins, deadline, advance, pins, interrupt, interrupt_with_enable, validate, outcome_of, Host, lifts, after}
 use Rattle.iic.specs.Told.{of_end, is_refusal}
 use Rattle.hosts.specs.Invariant.{Good, Leaves}
 use Rattle.iic.specs.Settled.{settled}
 use Rattle.hosts.specs.Kicked.{Settled, Settles, unready, kick_settles, then_kick}
-use Rattle.hosts.specs.Left.{byte_refused, guarded_left, half_leaves, leaves_more, then_leaves, truth_refused, wait_leaves}
+use Rattle.hosts.specs.Left.{byte_refused, guarded_left, leaves_more, then_leaves, truth_refused, wait_leaves}
 use Rattle.time.specs.Truths.{or_left, or_right}
 use Rattle.bus.specs.MaskLaws.{has_kept}
+use Rattle.refusals.specs.declared.Refusal.{Refusal}
+use Rattle.frames.specs.declared.Frame.{Frame}
 
 -- ## Off, gated off or in reset
 
@@ -89,23 +84,18 @@ pins_settles given now k s false e h = rw e (schedule_settles now k (set_raw giv
 abbrev pub Ungated : Iic → Type 0
 Ungated s = s.flags.gate ≡ false
 
-half_off : (set : MaybeHalf → Iic → Iic) → ((x : MaybeHalf) (s : Iic) → Ungated s → Ungated (set x s)) → (now : Time) (k : Domain) (w : MaybeHalf) (s : Iic)
-    → Ungated s → Leaves Ungated (turn_half_in (half_from set) false now k w s)
-half_off set keeps now k NoHalf s h = h
-half_off set keeps now k (Half w) s h = half_leaves Ungated set (turn_half false now k w) s (λ v i. keeps (Half v) s h)
-
-wait_off : (set : MaybeWait → Iic → Iic) → ((x : MaybeWait) (s : Iic) → Ungated s → Ungated (set x s)) → (now : Time) (k : Clocks) (w : MaybeWait) (s : Iic)
-    → Ungated s → Leaves Ungated (turn_wait_in (wait_from set) false now k w s)
-wait_off set keeps now k NoWait s h = h
-wait_off set keeps now k (Waiting w) s h = wait_leaves Ungated set (turn_wait false now k w) s (λ v i. keeps (Waiting v) s h)
+wait_off : {W : Type 0} (set : Option W → Iic → Iic) → ((x : Option W) (s : Iic) → Ungated s → Ungated (set x s))
+    → (turned : W → Result W Refusal) (w : Option W) (s : Iic) → Ungated s → Leaves Ungated (at_wait w (λ v. wait_from set (turned v)) s)
+wait_off set keeps turned None s h = h
+wait_off set keeps turned (Some w) s h = wait_leaves Ungated set (turned w) s (λ v i. keeps (Some v) s h)
 
 -- `turn_waits_of` by its parts, the last first
 off_1 : (now : Time) (k : Domain) (s : Iic) → Ungated s → Leaves Ungated (and_then (turn_clock_of false now k s) (turn_monitor_of false now k))
 unfolding turn_clock_of turn_monitor_of
 off_1 now k s h =
     then_leaves Ungated Ungated (turn_clock_of false now k s) (turn_monitor_of false now k)
-    (half_off set_clock_wait (λ x t g. g) now k s.clock_wait s h)
-    (λ t g. half_off set_monitor_wait (λ x u f. f) now k t.monitor_wait t g)
+    (wait_off set_clock_wait (λ x t g. g) (turn_half false now k) s.clock_wait s h)
+    (λ t g. wait_off set_monitor_wait (λ x u f. f) (turn_half false now k) t.monitor_wait t g)
 
 pub waits_off : (now : Time) (k : Clocks) (s : Iic) → Ungated s → Leaves Ungated (turn_waits_of false now k s)
 unfolding turn_waits_of keep_stretched_of turn_filter_of turn_setup_of
@@ -116,8 +106,8 @@ waits_off now k s h =
     then_leaves Ungated Ungated o3 (turn_setup_of false now k)
     (then_leaves Ungated Ungated o2 (turn_filter_of false now k)
     (then_leaves Ungated Ungated o1 (keep_stretched_of false now k.system) (off_1 now k.system s h) (λ t g. g))
-    (λ t g. wait_off set_filter_wait (λ x u f. f) now k t.filter_wait t g))
-    (λ t g. wait_off set_setup_wait (λ x u f. f) now k t.setup_wait t g)
+    (λ t g. wait_off set_filter_wait (λ x u f. f) (turn_wait false now k) t.filter_wait t g))
+    (λ t g. wait_off set_setup_wait (λ x u f. f) (turn_wait false now k) t.setup_wait t g)
 
 gate_settles : (gate : Bool) (now : Time) (k : Clocks) (s : Iic) (b : Bool) → beq s.flags.gate gate ≡ b → Settled s
     → Settles (turn_gate_of gate now k s)
@@ -205,12 +195,12 @@ reset_settles value now k s false p n h =
     (command_settles value now k (pull_sda_of value s) _ refl (pull_settled value s (has value SDAOP) refl h)))
 
 -- ICMR
-recount_settled : (n : ℕ) (fr : Framing) (s : Iic) → settled (set_frame fr s) ≡ true → settled (set_frame (recount_in fr n) s) ≡ true
+recount_settled : (n : ℕ) (fr : Option Frame) (s : Iic) → settled (set_frame fr s) ≡ true → settled (set_frame (recount_in fr n) s) ≡ true
 unfolding settled
-recount_settled n NoFrame s h = h
-recount_settled n (InFrame f) s h = go (is_data f.phase && not f.address) refl
+recount_settled n None s h = h
+recount_settled n (Some f) s h = go (is_data f.phase && not f.address) refl
   where
-    go : (b : Bool) → (is_data f.phase && not f.address) ≡ b → settled (set_frame (recount_in (InFrame f) n) s) ≡ true
+    go : (b : Bool) → (is_data f.phase && not f.address) ≡ b → settled (set_frame (recount_in (Some f) n) s) ≡ true
     go true e = rw e h
     go false e = rw e h
 
@@ -238,18 +228,18 @@ write_settles ICDRR value now k s n h = h
 -- ## The refusals that stand first
 
 -- where a guarded step isn't refused, it is the step itself
-passes : (g : ℕ) (s : Iic) (o : Stepped) (b : Bool) → eqb g 0 ≡ b → is_refusal (of_end (guarded g s o).ended) ≡ false → guarded g s o ≡ o
-passes g s o true e a = rw e
-passes g s o false e a = absurd (true≢false (rw e at a))
+passes : (g : Result ⊤ Refusal) (s : Iic) (o : Stepped) → is_refusal (of_end (guarded g s o).answer) ≡ false → guarded g s o ≡ o
+passes (Ok v) s o a = refl
+passes (Err n) s o a = absurd (true≢false a)
 
 -- ## Every call
 
 write_good : (r : Register) (value : ℕ) (now : Time) (k : Clocks) (s : Iic) (was : Bool)
     → let o : Stepped = guarded (guard_by (has_zero k) s) s (write_at r value now k.system s) in
-    is_refusal (of_end o.ended) ≡ false → (was ≡ false → Settled s) → (was || lifts s o.state) ≡ false → Settled o.state
+    is_refusal (of_end o.answer) ≡ false → (was ≡ false → Settled s) → (was || lifts s o.state) ≡ false → Settled o.state
 write_good r value now k s was a g e =
     let w : Stepped = write_at r value now k.system s in
-    let same : guarded (guard_by (has_zero k) s) s w ≡ w = passes (guard_by (has_zero k) s) s w (eqb (guard_by (has_zero k) s) 0) refl a in
+    let same : guarded (guard_by (has_zero k) s) s w ≡ w = passes (guard_by (has_zero k) s) s w a in
     let n : lifts s w.state ≡ false = rw same at (or_right was (lifts s (guarded (guard_by (has_zero k) s) s w).state) e) in
     guarded_left Settled (guard_by (has_zero k) s) s w (write_settles r value now k.system s n (g (or_left was _ e))) a
 
@@ -259,11 +249,11 @@ unfolding outcome_of after read_of write_of input_pins_of set_gate_of advance_of
 good_after k (peek a) h g ok = g
 good_after k (read a now) h g ok = λ e.
     guarded_left Settled (guard_by (has_zero k) h.state) h.state (read_at (register_at a) now k.system h.state)
-    (read_settles (register_at a) now k.system h.state (g e)) (sym (byte_refused (guarded (guard_by (has_zero k) h.state) h.state (read_at (register_at a) now k.system h.state)).ended (peek_of h.state a)) ∙ ok)
+    (read_settles (register_at a) now k.system h.state (g e)) (sym (byte_refused (guarded (guard_by (has_zero k) h.state) h.state (read_at (register_at a) now k.system h.state)).answer (peek_of h.state a)) ∙ ok)
 good_after k (write a value now) h g ok = write_good (register_at a) value now k h.state h.lifted ok g
 good_after k (input_pins scl sda now) h g ok = λ e.
     guarded_left Settled (guard_by (has_zero k) h.state) h.state (take_pins_of (levels scl sda) now k.system h.state)
-    (pins_settles (levels scl sda) now k.system h.state _ refl (g e)) (sym (truth_refused (guarded (guard_by (has_zero k) h.state) h.state (take_pins_of (levels scl sda) now k.system h.state)).ended (observes h.state (levels scl sda))) ∙ ok)
+    (pins_settles (levels scl sda) now k.system h.state _ refl (g e)) (sym (truth_refused (guarded (guard_by (has_zero k) h.state) h.state (take_pins_of (levels scl sda) now k.system h.state)).answer (observes h.state (levels scl sda))) ∙ ok)
 good_after k (Call.set_gate gate now) h g ok = λ e.
     guarded_left Settled (guard_by (has_zero k) h.state) h.state (turn_gate_of gate now k h.state) (gate_settles gate now k h.state _ refl (g e)) ok
 good_after k deadline h g ok = g

@@ -1,6 +1,6 @@
 -- Laws: the claim ends at a refusal, and has to. Two lists whose calls left are the same part after the eighth of those, which is refused: between it
 -- and the ninth one host makes an idle visit, which kicks where the refused call didn't.
-use Rattle.std.specs.Prelude.{ℕ, zero, suc, true, false, List, [], ◌∷◌, ◌++◌, map, ◌≡◌, refl, take}
+use Rattle.std.specs.Prelude.{ℕ, zero, suc, true, false, List, [], ◌∷◌, ◌++◌, map, ◌≡◌, refl, take, Result, Some}
 use Rattle.std.proofs.Common.{sym, ◌∙◌, ap, subst, arith}
 use Rattle.time.specs.Time as Time
 use Rattle.time.specs.Clock as Clock
@@ -26,9 +26,7 @@ use Rattle.rates.specs.Rates as Rates
 use Rattle.rates.specs.Rates.{default_rates}
 use Rattle.rates.specs.declared.Rates.{Rates as RateSet}
 use Rattle.clocks.specs.declared.Clocks.{Clocks}
-use Rattle.clocks.specs.declared.wait.NewWait.{NewWait}
 use Rattle.iic.specs.declared.Iic.{Iic}
-use Rattle.frames.specs.declared.Framing.TheVariants.{InFrame}
 use Rattle.iic.specs.Answers.{and_then}
 use Rattle.iic.specs.Kick.{kick_of}
 use Rattle.iic.specs.Setters.{set_gate as gated, set_control, set_address, set_frame, set_raw}
@@ -42,6 +40,8 @@ use Rattle.hosts.specs.Demand3 as Demand3
 use Rattle.hosts.specs.Demand3.{Left, left_of, calls, IsKth}
 use Rattle.hosts.specs.Rows.{at, made}
 use Rattle.hosts.specs.ClockRows.{late, late_wait, then_left, of_step, begun}
+use Rattle.clocks.specs.declared.wait.ClockWait.{ClockWait}
+use Rattle.refusals.specs.declared.Refusal.{Refusal}
 
 -- ## Two lists
 
@@ -60,7 +60,7 @@ without_visit = made (starving ++ (set_gate true (at 0) ∷ read 4 (at 0) ∷ []
 
 -- the state that the refused call leaves
 abbrev starved : Iic
-starved = set_frame (InFrame (begun true)) (set_control 0x90 (set_raw (levels false true) (set_address 0x01 (gated true default_iic))))
+starved = set_frame (Some (begun true)) (set_control 0x90 (set_raw (levels false true) (set_address 0x01 (gated true default_iic))))
 
 abbrev answers : List Left → List Answer
 answers l = map (λ (p : Left). p.answer) l
@@ -77,7 +77,7 @@ worked :
 unfolding Time.midway Time.moment_of Time.same_time Clock.after_of Clock.edge_of Clock.zero_in Clocks.available_of Clocks.fed_by Clocks.has_zero Clocks.routed_edge Clocks.source_of Clocks.tap_edge Domain.domain_half_edge Domain.odd_edge Counts.fits Tap.route_of Tap.route_s Tap.route_w Tap.stage_below Tap.stage_of Wait.dated Wait.edge_deadline Wait.wait_deadline Reading.continued_of Writing.control_set Writing.enter_reset_of Writing.give_data_of Reading.peek_at Writing.pull_sda_of Reading.read_at Reading.read_data_of Parts.redirect_frame Writing.redirected Registers.register_at Reading.resumed_of Writing.send_on_of Writing.stop_receive_of Writing.take_control_of Reading.taken_of Writing.write_address_of Writing.write_at Writing.out_of_reset_of Writing.write_control_of Writing.write_data_of Writing.write_enable_of Writing.write_mode_of Writing.write_command_of Writing.write_status_of Iic.advance_of Iic.input_pins_of Iic.keep_stretched_of Iic.peek_of Iic.read_of Iic.set_gate_of Iic.take_pins_of Iic.turn_gate_of Iic.turn_waits_of Iic.visit_of Iic.write_of Clocking.fire_clock_of Clocking.fire_filter_of Clocking.fire_monitor_of Clocking.fire_setup_of Half.half_deadline Kick.clock_frame_of Kick.kick_of Kick.launch_of Ready.low_half_of Ready.next_frame_of Shift.begin_frame_of Shift.load_transmit_of Shift.set_hold_of State.initial State.stop_shifter_of Ends.due_of Ends.half_end Rates.period_of Rates.rate Waits.schedule_filter_of Waits.start_clock_of Waits.turn_clock_of Waits.turn_filter_of Waits.turn_monitor_of Waits.turn_setup_of Ends.wait_end Hosts.after Hosts.any_due Hosts.idle Hosts.outcome_of Hosts.start Demand3.left Rates.rates_hold Rates.lengths_hold Rates.monitor_below Rates.monitor_halves
 worked =
     let refused : outcome_of late (set_gate true (at 0)) (after_all late (start default_rates) starving).state ≡ outcome (refusal 7) starved =
-    ap (λ (w : NewWait). of_step (and_then (filter_from w starved) (kick_of (at 0) late.system))) late_wait in
+    ap (λ (w : Result ClockWait Refusal). of_step (and_then (filter_from w starved) (kick_of (at 0) late.system))) late_wait in
     let more = then_left late (after_all late (start default_rates) starving) (set_gate true (at 0)) (made (advance (at 0) ∷ read 4 (at 0) ∷ [])) _ refl refused in
     let less = then_left late (after_all late (start default_rates) starving) (set_gate true (at 0)) (made (read 4 (at 0) ∷ [])) _ refl refused in (
       ap (λ (l : List Left). starving ++ calls l) more ∙ sym (ap (λ (l : List Left). starving ++ calls l) less),

@@ -1,21 +1,20 @@
 -- Definitions: the eleven calls as a host makes them, what they answer and leave, and which of them are idle (document 01, "*Idle* calls").
-use Rattle.std.specs.Prelude.{ℕ, Bool, true, false, not, ◌&&◌, ◌||◌, List, [], ◌∷◌}
+use Rattle.std.specs.Prelude.{ℕ, Bool, true, false, not, ◌&&◌, ◌||◌, List, [], ◌∷◌, Err, Ok, Result}
 use Rattle.std.specs.Bool.{beq}
 use Rattle.bus.specs.Bus.{same_levels, levels}
 use Rattle.time.specs.declared.Time.{Time}
 use Rattle.clocks.specs.declared.Clocks.{Clocks}
 use Rattle.clocks.specs.Clocks.{has_zero}
 use Rattle.iic.specs.declared.Iic.{Iic}
-use Rattle.waits.specs.declared.Due.{Due}
-use Rattle.waits.specs.declared.Due.TheVariants.{Now, NotNow, Refused as Unknown}
 use Rattle.registers.specs.declared.Register.{Register}
 use Rattle.registers.specs.declared.Register.TheVariants.{ICCR1, ICCR2, ICMR, ICIER, ICSR, SAR, ICDRT, ICDRR}
-use Rattle.iic.specs.Told.{Answer, byte, bit, of_end, of_byte, of_truth, of_deadline, of_pins, of_number}
+use Rattle.iic.specs.Told.{Answer, byte, bit, of_end, of_byte, of_truth, of_deadline, of_pins}
 use Rattle.registers.specs.Registers.{register_at}
 use Rattle.iic.specs.Calls.{peek_of, read_of, write_of, input_pins_of, set_gate_of, deadline_of, advance_of, pins_of, interrupt_with_enable_of, validate_of}
 use Rattle.iic.specs.State.{framed, initial}
 use Rattle.rates.specs.declared.Rates.{Rates}
 use Rattle.waits.specs.Ends.{wait_end, half_end, due_of}
+use Rattle.refusals.specs.declared.Refusal.{Refusal}
 
 -- ## Calls
 
@@ -58,16 +57,16 @@ outcome a s = record { answer = a; state = s }
 unfoldable pub outcome_of : Clocks → Call → Iic → Outcome
 outcome_of k (peek a) s = outcome (byte (peek_of s a)) s
 outcome_of k (read a now) s = outcome (of_byte (read_of s a now k).answer) (read_of s a now k).state
-outcome_of k (write a value now) s = outcome (of_end (write_of s a value now k).ended) (write_of s a value now k).state
+outcome_of k (write a value now) s = outcome (of_end (write_of s a value now k).answer) (write_of s a value now k).state
 outcome_of k (input_pins scl sda now) s =
     outcome (of_truth (input_pins_of s scl sda now k).answer) (input_pins_of s scl sda now k).state
-outcome_of k (set_gate gate now) s = outcome (of_end (set_gate_of s gate now k).ended) (set_gate_of s gate now k).state
+outcome_of k (set_gate gate now) s = outcome (of_end (set_gate_of s gate now k).answer) (set_gate_of s gate now k).state
 outcome_of k deadline s = outcome (of_deadline (deadline_of s k)) s
-outcome_of k (advance now) s = outcome (of_end (advance_of s now k).ended) (advance_of s now k).state
+outcome_of k (advance now) s = outcome (of_end (advance_of s now k).answer) (advance_of s now k).state
 outcome_of k pins s = outcome (of_pins (pins_of s)) s
 outcome_of k interrupt s = outcome (bit (interrupt_with_enable_of s 0)) s
 outcome_of k (interrupt_with_enable retained) s = outcome (bit (interrupt_with_enable_of s retained)) s
-outcome_of k (validate now) s = outcome (of_number (validate_of s now)) s
+outcome_of k (validate now) s = outcome (of_end (validate_of s now)) s
 
 -- ## Hosts
 
@@ -113,10 +112,10 @@ after_all k h (x ∷ l) = after_all k (after k x h) l
 -- ## Idle calls
 
 -- a wait whose time is refused isn't due
-abbrev pub is_now : Due → Bool
-is_now Now = true
-is_now NotNow = false
-is_now (Unknown n) = false
+abbrev pub is_now : Result Bool Refusal → Bool
+is_now (Ok true) = true
+is_now (Ok false) = false
+is_now (Err n) = false
 
 -- one of the four waits is due: filter, setup, monitor, clock
 abbrev pub waits_due : Clocks → Time → Iic → Bool

@@ -1,7 +1,7 @@
 -- Laws: lists of calls with waits that run, over a clock set whose edges come too late to have a time and over one that ticks. A visit at which a wait's
 -- time is refused is struck, and the list goes on; a visit that starts a frame is left; so is one at which a wait is due, and those before and
 -- after its time are struck.
-use Rattle.std.specs.Prelude.{◌+◌, ◌-◌, ◌^◌, Bool, true, false, not, List, [], ◌∷◌, ◌++◌, ◌≡◌, refl}
+use Rattle.std.specs.Prelude.{◌+◌, ◌-◌, ◌^◌, Bool, true, false, not, List, [], ◌∷◌, ◌++◌, ◌≡◌, refl, Err, Ok, Result, Some}
 use Rattle.std.proofs.Common.{ap, lit<, lit≤}
 use Rattle.time.specs.Time as Time
 use Rattle.time.specs.Clock as Clock
@@ -30,23 +30,15 @@ use Rattle.time.specs.Time.{time_of}
 use Rattle.time.specs.Clock.{edges_before}
 use Rattle.time.proofs.Laws.{none_before}
 use Rattle.clocks.specs.declared.Clocks.{Clocks}
-use Rattle.clocks.specs.declared.wait.NewWait.{NewWait}
-use Rattle.clocks.specs.declared.wait.NewWait.TheVariants as wait
 use Rattle.clocks.specs.declared.wait.WaitState.TheVariants.{Running}
 use Rattle.clocks.specs.Tap.{system_tap}
 use Rattle.clocks.specs.System.{system_after}
 use Rattle.clocks.specs.Wait.{wait_of}
 use Rattle.iic.specs.declared.Iic.{Iic}
-use Rattle.iic.specs.declared.Stepped.{Stepped}
 use Rattle.frames.specs.declared.Frame.{Frame}
 use Rattle.frames.specs.declared.Phase.TheVariants.{Data}
-use Rattle.frames.specs.declared.Framing.TheVariants.{InFrame}
-use Rattle.waits.specs.declared.MaybeWait.TheVariants.{Waiting}
-use Rattle.waits.specs.declared.MaybeHalf.TheVariants as maybe
-use Rattle.waits.specs.declared.NewHalf.{NewHalf}
-use Rattle.waits.specs.declared.NewHalf.TheVariants as half
 use Rattle.iic.specs.Writing.{stop_receive_of}
-use Rattle.iic.specs.Answers.{fine, and_then, truth_of}
+use Rattle.iic.specs.Answers.{Stepped, and_then, fine, value_of}
 use Rattle.waits.specs.Half.{half_after, half_wait}
 use Rattle.iic.specs.Kick.{kick_of}
 use Rattle.iic.specs.Setters.{set_gate as gated, set_control, set_address, set_frame, set_drive, set_raw, set_receive_enabled, set_clock_wait, set_filter_wait}
@@ -59,6 +51,10 @@ use Rattle.iic.specs.Told.{refusal, nothing, bit, of_end, of_truth}
 use Rattle.hosts.specs.Demand3 as Demand3
 use Rattle.hosts.specs.Demand3.{Left, left, left_of, calls}
 use Rattle.hosts.specs.Rows.{at, clock_set, made}
+use Rattle.clocks.specs.declared.wait.ClockWait.{ClockWait}
+use Rattle.refusals.specs.declared.Refusal.{Refusal}
+use Rattle.waits.specs.declared.HalfWait.{HalfWait}
+use Rattle.refusals.specs.declared.Refusal.TheVariants.{Overflow}
 
 -- ## The clock sets
 
@@ -70,12 +66,12 @@ none_yet : edges_before late.system.clock (time_of (at 0) + 1) ≡ 0
 none_yet = none_before late.system.clock (time_of (at 0) + 1) (lit< tt) (lit< tt) (lit≤ tt)
 
 -- a half wait is started all the same
-late_half : half_after (at 0) 28 late.system ≡ half.Made (half_wait false 29)
+late_half : half_after (at 0) 28 late.system ≡ Ok (half_wait false 29)
 unfolding Time.earlier Time.midway Time.moment_of Time.next_time Time.sum_of Clock.after_of Clock.edge_of Clock.edges_before_of Clock.zero_in Counts.fits Domain.domain_half_ticks Domain.domain_ticks Domain.edge_or_last Domain.halves Domain.halves_of Domain.high_between Domain.level_high Half.half_after State.initial Hosts.start Rates.rates_hold Rates.lengths_hold Rates.monitor_below Rates.monitor_halves Rates.period_of Rates.rate
 late_half = rw none_yet refl
 
 -- a wait for an edge is refused
-pub late_wait : system_after (at 0) 1 late.system ≡ wait.Refused 7
+pub late_wait : system_after (at 0) 1 late.system ≡ Err Overflow
 unfolding Time.moment_of Time.next_time Clock.after_of Clock.edge_of Clock.edges_before_of Clock.zero_in Domain.domain_ticks Counts.fits Wait.dated System.domain_deadline Wait.started_by System.system_started_at System.system_after State.initial Hosts.start Rates.rates_hold Rates.lengths_hold Rates.monitor_below Rates.monitor_halves Rates.period_of Rates.rate
 late_wait = rw none_yet refl
 
@@ -86,7 +82,7 @@ ticking = clock_set true (at 1)
 no_tick_yet : edges_before ticking.system.clock (time_of (at 0) + 1) ≡ 0
 no_tick_yet = none_before ticking.system.clock (time_of (at 0) + 1) (lit< tt) (lit< tt) (lit≤ tt)
 
-ticking_wait : system_after (at 0) 1 ticking.system ≡ wait.Made (wait_of (system_tap 1) (Running 1))
+ticking_wait : system_after (at 0) 1 ticking.system ≡ Ok (wait_of (system_tap 1) (Running 1))
 unfolding Time.moment_of Time.next_time Clock.after_of Clock.edge_of Clock.edges_before_of Clock.zero_in Domain.domain_ticks Counts.fits Wait.dated System.domain_deadline Wait.started_by System.system_started_at System.system_after State.initial Hosts.start Rates.rates_hold Rates.lengths_hold Rates.monitor_below Rates.monitor_halves Rates.period_of Rates.rate
 ticking_wait = rw no_tick_yet refl
 
@@ -100,7 +96,7 @@ then_left k h x l o i e = rw (i, e)
 
 -- how a step ended, and its state
 abbrev pub of_step : Stepped → Outcome
-of_step o = outcome (of_end o.ended) o.state
+of_step o = outcome (of_end o.answer) o.state
 
 -- a frame that was just begun: its byte is still to come where it sends
 abbrev pub begun : Bool → Frame
@@ -109,7 +105,7 @@ begun sends = record { shift = 0; remaining = 8; phase = Data; address = false; 
 -- a synchronous master that receives, SCL low
 abbrev receiving : Iic
 receiving =
-    set_drive (levels false true) (set_receive_enabled true (set_frame (InFrame (begun false)) (set_control 0xa0 (set_address 0x01 (gated true default_iic)))))
+    set_drive (levels false true) (set_receive_enabled true (set_frame (Some (begun false)) (set_control 0xa0 (set_address 0x01 (gated true default_iic)))))
 
 -- enabled by a write that was refused before its kick, a frame to begin
 abbrev unkicked : Iic
@@ -135,8 +131,8 @@ clock_rows :
     (calls (left_of default_rates late (made (first ++ (write 0 0xa0 (at 0) ∷ advance (at 0) ∷ write 3 0x10 (at 0) ∷ []))))
     ≡ first ++ (write 0 0xa0 (at 0) ∷ write 3 0x10 (at 0) ∷ []))
     -- that visit is refused and changes nothing
-    × (outcome_of late (advance (at 0)) (set_clock_wait (maybe.Half (half_wait false 29)) receiving)
-    ≡ outcome (refusal 7) (set_clock_wait (maybe.Half (half_wait false 29)) receiving))
+    × (outcome_of late (advance (at 0)) (set_clock_wait (Some (half_wait false 29)) receiving)
+    ≡ outcome (refusal 7) (set_clock_wait (Some (half_wait false 29)) receiving))
     -- the first visit starts a frame, the second doesn't
     × (calls (left_of default_rates late (made (second ++ (write 0 0x80 (at 0) ∷ advance (at 0) ∷ advance (at 0) ∷ []))))
     ≡ second ++ (write 0 0x80 (at 0) ∷ advance (at 0) ∷ []))
@@ -145,13 +141,13 @@ clock_rows :
     ≡ third ++ (input_pins true false (at 0) ∷ advance (at 2) ∷ []))
 unfolding Time.midway Time.moment_of Time.same_time Clock.after_of Clock.edge_of Clock.zero_in Clocks.available_of Clocks.fed_by Clocks.has_zero Clocks.routed_edge Clocks.source_of Clocks.tap_edge Domain.domain_half_edge Domain.odd_edge Counts.fits Tap.route_of Tap.route_s Tap.route_w Tap.stage_below Tap.stage_of Wait.dated Wait.edge_deadline Wait.wait_deadline Reading.continued_of Writing.control_set Writing.enter_reset_of Writing.give_data_of Reading.peek_at Writing.pull_sda_of Reading.read_at Reading.read_data_of Parts.redirect_frame Writing.redirected Registers.register_at Reading.resumed_of Writing.send_on_of Writing.stop_receive_of Writing.take_control_of Reading.taken_of Writing.write_address_of Writing.write_at Writing.out_of_reset_of Writing.write_control_of Writing.write_data_of Writing.write_enable_of Writing.write_mode_of Writing.write_command_of Writing.write_status_of Iic.advance_of Iic.input_pins_of Iic.keep_stretched_of Iic.peek_of Iic.read_of Iic.set_gate_of Iic.take_pins_of Iic.turn_gate_of Iic.turn_waits_of Iic.visit_of Iic.write_of Clocking.fire_clock_of Clocking.fire_filter_of Clocking.fire_monitor_of Clocking.fire_setup_of Half.half_deadline Kick.clock_frame_of Kick.kick_of Kick.launch_of Ready.low_half_of Ready.next_frame_of Shift.begin_frame_of Shift.load_transmit_of Shift.set_hold_of State.initial State.stop_shifter_of Ends.due_of Ends.half_end Rates.period_of Rates.rate Waits.schedule_filter_of Waits.start_clock_of Waits.turn_clock_of Waits.turn_filter_of Waits.turn_monitor_of Waits.turn_setup_of Ends.wait_end Hosts.after Hosts.any_due Hosts.idle Hosts.outcome_of Hosts.start Demand3.left Rates.rates_hold Rates.lengths_hold Rates.monitor_below Rates.monitor_halves
 clock_rows =
-    let clocked : outcome_of late (write 0 0xa0 (at 0)) (after_all late (start default_rates) first).state ≡ outcome nothing (set_clock_wait (maybe.Half (half_wait false 29)) receiving) =
-    ap (λ (w : NewHalf). of_step (clock_from w receiving)) late_half in
+    let clocked : outcome_of late (write 0 0xa0 (at 0)) (after_all late (start default_rates) first).state ≡ outcome nothing (set_clock_wait (Some (half_wait false 29)) receiving) =
+    ap (λ (w : Result HalfWait Refusal). of_step (clock_from w receiving)) late_half in
     let refused : outcome_of late (write 0 0x80 (at 0)) (after_all late (start default_rates) second).state ≡ outcome (refusal 7) unkicked =
-    ap (λ (w : NewWait). of_step (and_then (and_then (filter_from w unkicked) (λ u. fine (stop_receive_of u))) (kick_of (at 0) late.system))) late_wait in
+    ap (λ (w : Result ClockWait Refusal). of_step (and_then (and_then (filter_from w unkicked) (λ u. fine (stop_receive_of u))) (kick_of (at 0) late.system))) late_wait in
     let filtering : outcome_of ticking (input_pins true false (at 0)) (after_all ticking (start default_rates) third).state
-    ≡ outcome (bit true) (set_filter_wait (Waiting (wait_of (system_tap 1) (Running 1))) fallen) =
-    ap (λ (w : NewWait). outcome (of_truth (truth_of (filter_from w fallen).ended true)) (filter_from w fallen).state) ticking_wait in (
+    ≡ outcome (bit true) (set_filter_wait (Some (wait_of (system_tap 1) (Running 1))) fallen) =
+    ap (λ (w : Result ClockWait Refusal). outcome (of_truth (value_of (filter_from w fallen).answer true)) (filter_from w fallen).state) ticking_wait in (
       ap (λ (l : List Left). first ++ calls l)
           (then_left late (after_all late (start default_rates) first) (write 0 0xa0 (at 0)) (made (advance (at 0) ∷ write 3 0x10 (at 0) ∷ [])) _ refl clocked),
       refl,

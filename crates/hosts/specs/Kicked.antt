@@ -1,5 +1,5 @@
 -- Laws: every kick that isn't refused leaves a settled state.
-use Rattle.std.specs.Prelude.{Bool, true, false, not, ◌&&◌, ◌||◌, cond, ◌≡◌, refl}
+use Rattle.std.specs.Prelude.{Bool, true, false, not, ◌&&◌, ◌||◌, cond, ◌≡◌, refl, None, Option, Some}
 use Rattle.std.proofs.Common.{true≢false}
 use Rattle.std.proofs.lemmas.Bool.{false≢true}
 use Rattle.std.proofs.Math.Bool.{or-true, and-false}
@@ -7,15 +7,10 @@ use Rattle.bus.specs.Bits.{has}
 use Rattle.time.specs.declared.Time.{Time}
 use Rattle.domain.specs.declared.Domain.{Domain}
 use Rattle.iic.specs.declared.Iic.{Iic}
-use Rattle.iic.specs.declared.Stepped.{Stepped}
 use Rattle.frames.specs.declared.Frame.{Frame}
-use Rattle.frames.specs.declared.Framing.{Framing}
-use Rattle.frames.specs.declared.Framing.TheVariants.{NoFrame, InFrame}
-use Rattle.iic.specs.declared.Command.{Command}
-use Rattle.iic.specs.declared.Command.TheVariants.{NoCommand, Commanded}
 use Rattle.iic.specs.declared.Hold.TheVariants.{Transmit}
 use Rattle.registers.specs.Bits.{TDRE}
-use Rattle.iic.specs.Answers.{fine, and_then}
+use Rattle.iic.specs.Answers.{Stepped, and_then, fine}
 use Rattle.waits.specs.Half.{half_after}
 use Rattle.iic.specs.Ready.{ready, command_ready, frame_due, next_frame_of, clock_due, low_half_of, level_at}
 use Rattle.iic.specs.Conditions.{first_condition, begun_of}
@@ -28,7 +23,7 @@ use Rattle.rates.specs.Rates.{period_of}
 use Rattle.iic.specs.Waiting.{start_clock_of}
 use Rattle.iic.specs.Settled.{loads_in, loads, rests, settled}
 use Rattle.hosts.specs.Invariant.{Leaves}
-use Rattle.hosts.specs.Left.{half_leaves, left, then_leaves}
+use Rattle.hosts.specs.Left.{wait_leaves, left, then_leaves}
 
 abbrev pub Settled : Iic → Type 0
 Settled s = settled s ≡ true
@@ -49,27 +44,27 @@ begun : (b : Bool) → is_condition (first_condition b) ≡ true
 begun true = refl
 begun false = refl
 
-command_settles : (now : Time) (k : Domain) (c : Command) (s : Iic) → command_ready s ≡ true → s.command ≡ c → Settles (command_in c now k s)
+command_settles : (now : Time) (k : Domain) (c : Option Bool) (s : Iic) → command_ready s ≡ true → s.command ≡ c → Settles (command_in c now k s)
 unfolding start_clock_of begun_of
-command_settles now k NoCommand s h e = absurd (false≢true (rw e at h))
-command_settles now k (Commanded start) s h e =
-    half_leaves Settled set_clock_wait (half_after now (period_of s.rates s.registers.control) k) (begun_of start s) (λ v i. in_condition _ (begun start))
+command_settles now k None s h e = absurd (false≢true (rw e at h))
+command_settles now k (Some start) s h e =
+    wait_leaves Settled set_clock_wait (half_after now (period_of s.rates s.registers.control) k) (begun_of start s) (λ v i. in_condition _ (begun start))
 
 -- what holds of a state that a kick has given its frame
 record Framed (s : Iic) : Type 0 where
   no_command : command_ready s ≡ false
   no_frame : frame_due s ≡ false
 
-load_framed : (fr : Framing) (s : Iic) (b : Bool) → loads_in fr (has s.registers.status TDRE) ≡ b → Framed (set_frame fr s) → Framed (load_in fr (set_frame fr s))
-load_framed NoFrame s b e r = r
-load_framed (InFrame f) s true e r = rw e record { no_command = r.no_command; no_frame = refl }
-load_framed (InFrame f) s false e r = rw e r
+load_framed : (fr : Option Frame) (s : Iic) (b : Bool) → loads_in fr (has s.registers.status TDRE) ≡ b → Framed (set_frame fr s) → Framed (load_in fr (set_frame fr s))
+load_framed None s b e r = r
+load_framed (Some f) s true e r = rw e record { no_command = r.no_command; no_frame = refl }
+load_framed (Some f) s false e r = rw e r
 
-load_loaded : (fr : Framing) (s : Iic) (b : Bool) → loads_in fr (has s.registers.status TDRE) ≡ b
+load_loaded : (fr : Option Frame) (s : Iic) (b : Bool) → loads_in fr (has s.registers.status TDRE) ≡ b
     → loads (load_in fr (set_frame fr s)) ≡ false
-load_loaded NoFrame s b e = refl
-load_loaded (InFrame f) s true e = rw e (rw (and-false f.transmit) refl)
-load_loaded (InFrame f) s false e = rw e e
+load_loaded None s b e = refl
+load_loaded (Some f) s true e = rw e (rw (and-false f.transmit) refl)
+load_loaded (Some f) s false e = rw e e
 
 transmit_framed : (s : Iic) → Framed s → Framed (load_transmit_of s)
 unfolding load_transmit_of
@@ -105,31 +100,31 @@ while_held true true y = refl
 while_held true false y = refl
 while_held false w y = refl
 
-hold_settles : (s : Iic) (f : Frame) (b : Bool) → synchronous s ≡ b → Framed (set_frame (InFrame f) s) → can_load s f ≡ false
-    → starved f ≡ true → settled (set_hold_of Transmit (set_frame (InFrame f) s)) ≡ true
+hold_settles : (s : Iic) (f : Frame) (b : Bool) → synchronous s ≡ b → Framed (set_frame (Some f) s) → can_load s f ≡ false
+    → starved f ≡ true → settled (set_hold_of Transmit (set_frame (Some f) s)) ≡ true
 unfolding set_hold_of
 hold_settles s f true e r l w =
-    rw e (framed_settled (set_frame (InFrame f) s) r l (rw (w, e) (rw (or-true (is_done f.phase)) (or-true (not (clock_due s))))))
+    rw e (framed_settled (set_frame (Some f) s) r l (rw (w, e) (rw (or-true (is_done f.phase)) (or-true (not (clock_due s))))))
 hold_settles s f false e r l w =
     rw e (framed_settled _ record { no_command = r.no_command; no_frame = refl } l (rw (while_held (master s) true (not s.flags.synchronized_hold))))
 
 launch_settles : (now : Time) (k : Domain) (f : Frame) (s : Iic) (d w : Bool)
-    → Framed (set_frame (InFrame f) s) → can_load s f ≡ false → is_done f.phase ≡ d → starved f ≡ w
-    → Settles (launch_of f now k (set_frame (InFrame f) s))
+    → Framed (set_frame (Some f) s) → can_load s f ≡ false → is_done f.phase ≡ d → starved f ≡ w
+    → Settles (launch_of f now k (set_frame (Some f) s))
 unfolding launch_of start_clock_of low_half_of
 launch_settles now k f s true w r l p q = rw p (framed_settled _ r l (rw p (or-true (not (clock_due s)))))
 launch_settles now k f s false true r l p q = rw (p, q) (hold_settles s f (synchronous s) refl r l q)
 launch_settles now k f s false false r l p q =
-    rw (p, q) (half_leaves Settled set_clock_wait (half_after now (period_of s.rates s.registers.control) k) (low_half_of (level_at f.phase f (set_frame (InFrame f) s)) (set_frame (InFrame f) s)) (λ v i.
+    rw (p, q) (wait_leaves Settled set_clock_wait (half_after now (period_of s.rates s.registers.control) k) (low_half_of (level_at f.phase f (set_frame (Some f) s)) (set_frame (Some f) s)) (λ v i.
     framed_settled _ record { no_command = r.no_command; no_frame = refl } l
     (rw (beside_wait (master s) (not (held s)) (not s.flags.synchronized_hold)))))
 
-clock_settles : (now : Time) (k : Domain) (fr : Framing) (s : Iic) (b : Bool)
+clock_settles : (now : Time) (k : Domain) (fr : Option Frame) (s : Iic) (b : Bool)
     → Framed (set_frame fr s) → loads_in fr (has s.registers.status TDRE) ≡ false → clock_due s ≡ b
     → Settles (cond b (launch_in fr now k (set_frame fr s)) (fine (set_frame fr s)))
 clock_settles now k fr s false r l e = framed_settled (set_frame fr s) r l (rw e refl)
-clock_settles now k NoFrame s true r l e = framed_settled (set_frame NoFrame s) r refl (or-true (not (clock_due s)))
-clock_settles now k (InFrame f) s true r l e = launch_settles now k f s (is_done f.phase) (starved f) r l refl refl
+clock_settles now k None s true r l e = framed_settled (set_frame None s) r refl (or-true (not (clock_due s)))
+clock_settles now k (Some f) s true r l e = launch_settles now k f s (is_done f.phase) (starved f) r l refl refl
 
 frame_settles : (now : Time) (k : Domain) (s : Iic) → Framed s → loads s ≡ false → Settles (clock_frame_of now k s)
 unfolding clock_frame_of

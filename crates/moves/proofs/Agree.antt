@@ -1,6 +1,6 @@
 -- Laws: over two clock sets that are alike, each of the eleven calls answers alike and leaves the same state, and so does any list of them: the proof of
 -- `AlikeAgree`. Assumes nothing.
-use Rattle.std.specs.Prelude.{ℕ, Bool, ◌&&◌, [], ◌∷◌, ◌≡◌, refl, eqb}
+use Rattle.std.specs.Prelude.{ℕ, Bool, ◌&&◌, [], ◌∷◌, ◌≡◌, refl, Err, None, Ok, Option, Result, ⊤}
 use Rattle.std.specs.Bool.{beq}
 use Rattle.std.proofs.Math.Bool.{false, cond}
 use Rattle.std.proofs.Common.{◌∙◌}
@@ -9,7 +9,7 @@ use Rattle.bus.specs.declared.Levels.{Levels}
 use Rattle.bus.specs.Bus.{levels, same_levels}
 use Rattle.clocks.specs.Clocks.{has_zero}
 use Rattle.waits.specs.Ends.{sooner}
-use Rattle.iic.specs.Answers.{answered, fine, guarded, noticed, refused}
+use Rattle.iic.specs.Answers.{Stepped, answered, fine, guarded, refused}
 use Rattle.iic.specs.Calls.{advance_of, deadline_of, earliest_of, ends_of, guard_by, input_pins_of, keep_stretched_of, peek_of, read_of, set_gate_of, take_pins_of, turn_gate_of, turn_waits_of, visit_of, write_of}
 use Rattle.iic.specs.Filter.{observes}
 use Rattle.registers.specs.Registers.{register_at}
@@ -21,12 +21,10 @@ use Rattle.moves.specs.Steps.{alone, fire_clock, fire_filter, fire_monitor, fire
 use Rattle.moves.specs.Waits.{half_ends, wait_ends}
 use Rattle.time.specs.declared.Time.{Time}
 use Rattle.clocks.specs.declared.Clocks.{Clocks}
-use Rattle.clocks.specs.declared.wait.Deadline.{Deadline}
-use Rattle.clocks.specs.declared.wait.Deadline.TheVariants as moment
 use Rattle.iic.specs.declared.Iic.{Iic}
-use Rattle.iic.specs.declared.Stepped.{Stepped}
 use Rattle.moves.specs.Statement.{CallFrom, From, outcomes}
 use Rattle.moves.specs.Alike.{Ahead, Alike, AlikeAgree, Both, Keeps, KeepsOver, last_state}
+use Rattle.refusals.specs.declared.Refusal.{Refusal}
 
 -- ## `input_pins`, `set_gate`, `advance`
 
@@ -71,8 +69,11 @@ record Same (k k' : Clocks) (o : ℕ) (x x' : Outcome) : Type 0 where
 module _ (k k' : Clocks) (s : Time) (o : ℕ) (alike : Alike k k' s o) where
   -- behind the refusals that stand first
   guard : (u : Iic) {x x' : Stepped} → Ahead k k' o u → Both k k' o x x' → Both k k' o (guarded (guard_by (has_zero k) u) u x) (guarded (guard_by (has_zero k') u) u x')
-  guard u {x} {x'} h g =
-      rw (alike.free, alike.free') (if_both (eqb (guard_by false u) 0) g (alone (refused (guard_by false u) u) h))
+  guard u {x} {x'} h g = rw (alike.free, alike.free') (go (guard_by false u))
+    where
+      go : (e : Result ⊤ Refusal) → Both k k' o (guarded e u x) (guarded e u x')
+      go (Ok v) = g
+      go (Err n) = alone (refused n u) h
 
   ends_alike : (u : Iic) → Ahead k k' o u → deadline_of u k ≡ deadline_of u k'
   unfolding deadline_of earliest_of
@@ -81,10 +82,10 @@ module _ (k k' : Clocks) (s : Time) (o : ℕ) (alike : Alike k k' s o) where
       ap₂ sooner (wait_ends k k' s o alike u.filter_wait h.2)
       (ap₂ sooner (half_ends k k' s o alike u.clock_wait h.0)
       (ap₂ sooner (half_ends k k' s o alike u.monitor_wait h.1) (wait_ends k k' s o alike u.setup_wait h.3))) in
-      rw (alike.free, alike.free') (ap (λ (d : Deadline). cond (awake u) d moment.Never) earliest)
+      rw (alike.free, alike.free') (ap (λ (d : Result (Option Time) Refusal). cond (awake u) d (Ok None)) earliest)
 
-  stepped : {x x' : Stepped} → Both k k' o x x' → Same k k' o (outcome (of_end x.ended) x.state) (outcome (of_end x'.ended) x'.state)
-  stepped g = record { same = ap (λ (z : Stepped). outcome (of_end z.ended) z.state) g.same; ahead = g.ahead }
+  stepped : {x x' : Stepped} → Both k k' o x x' → Same k k' o (outcome (of_end x.answer) x.state) (outcome (of_end x'.answer) x'.state)
+  stepped g = record { same = ap (λ (z : Stepped). outcome (of_end z.answer) z.state) g.same; ahead = g.ahead }
 
   call : (x : Call) → CallFrom s x → (u : Iic) → Ahead k k' o u → Same k k' o (outcome_of k x u) (outcome_of k' x u)
   unfolding outcome_of read_of write_of input_pins_of set_gate_of advance_of
@@ -99,11 +100,11 @@ module _ (k k' : Clocks) (s : Time) (o : ℕ) (alike : Alike k k' s o) where
   call (input_pins scl sda now) from u h =
       let g = guard u h (take_pins k k' s o alike now from (levels scl sda) u h) in
       record {
-        same = ap (λ (z : Stepped). outcome (of_truth (noticed z (observes u (levels scl sda))).answer) z.state) g.same;
+        same = ap (λ (z : Stepped). outcome (of_truth (answered z (observes u (levels scl sda))).answer) z.state) g.same;
         ahead = g.ahead;
       }
   call (set_gate gate now) from u h = stepped (guard u h (turn_gate k k' s o alike now from gate u h))
-  call deadline from u h = record { same = ap (λ (d : Deadline). outcome (of_deadline d) u) (ends_alike u h); ahead = h }
+  call deadline from u h = record { same = ap (λ (d : Result (Option Time) Refusal). outcome (of_deadline d) u) (ends_alike u h); ahead = h }
   call (advance now) from u h = stepped (guard u h (visit k k' s o alike now from u h))
   call pins from u h = record { same = refl; ahead = h }
   call interrupt from u h = record { same = refl; ahead = h }

@@ -1,8 +1,7 @@
 -- Laws: the proof of `MovedRuns`, and a use of it from the default. Assumes nothing.
-use Rattle.std.specs.Prelude.{ℕ, suc, ◌+◌, ◌-◌, ◌*◌, ◌^◌, ◌≤◌, ◌<◌, Bool, true, false, cond, List, ◌≡◌, refl, ltb}
+use Rattle.std.specs.Prelude.{ℕ, ◌+◌, ◌-◌, ◌*◌, ◌^◌, ◌≤◌, ◌<◌, Bool, true, false, cond, List, ◌≡◌, refl, ltb, Err, Ok}
 use Rattle.std.proofs.Common.{sym, ◌∙◌, ap, subst, arith, ltb-true}
 use Rattle.time.specs.declared.Clock.{Clock}
-use Rattle.time.specs.declared.NewClock.TheVariants.{Made as made, Refused as refused}
 use Rattle.time.specs.Clock.{in_width, move_of, moved_by, start_after, zero_in}
 use Rattle.time.proofs.Laws.{no_zero, time_of_from}
 use Rattle.time.proofs.MoveLaws.{moved_sound}
@@ -22,6 +21,9 @@ use Rattle.moves.specs.Moving.{moved_alike}
 use Rattle.moves.proofs.Own.{own_ahead}
 use Rattle.moves.specs.Sets.{set_alike}
 use Rattle.moves.specs.Statement.{AllFrom, Moved, MovedRuns, NoneBefore, new_start, outcomes}
+use Rattle.refusals.proofs.Laws.{err_not_ok}
+use Rattle.refusals.specs.declared.Refusal.{Refusal}
+use Rattle.refusals.specs.declared.Refusal.TheVariants.{ZeroFrequency, Overflow}
 
 -- what a move that wasn't refused tells
 record Parts (n : ℕ) (k k' : Clocks) : Type 0 where
@@ -29,20 +31,20 @@ record Parts (n : ℕ) (k k' : Clocks) : Type 0 where
   width : in_width n k.system.clock ≡ true
   is : with_system (moved_by n k.system.clock) k ≡ k'
 
-some : (r : ℕ) (a b : Clocks) → ◌≡◌ {A = NewClocks} (record { refusal = suc r; clocks = a }) (record { refusal = 0; clocks = b }) → ⊥
-some r a b e = let z : suc r ≡ 0 = ap (λ (x : NewClocks). x.refusal) e in omega arith
+some : (r : Refusal) (a b : Clocks) → ◌≡◌ {A = NewClocks} (record { ended = Err r; clocks = a }) (record { ended = Ok tt; clocks = b }) → ⊥
+some r a b e = err_not_ok (ap (λ (x : NewClocks). x.ended) e)
 
 moved_parts : (k k' : Clocks) (n : ℕ) → Moved k n k' → Parts n k k'
 unfolding move_system move_of
 moved_parts k k' n e = go (has_zero k) refl e
   where
-    go : (z : Bool) → has_zero k ≡ z → cond z (record { refusal = 1; clocks = k }) (moved_in k (move_of n k.system.clock)) ≡ record { refusal = 0; clocks = k' } → Parts n k k'
-    go true p f = absurd (some 0 k k' f)
+    go : (z : Bool) → has_zero k ≡ z → cond z (record { ended = Err ZeroFrequency; clocks = k }) (moved_in k (move_of n k.system.clock)) ≡ record { ended = Ok tt; clocks = k' } → Parts n k k'
+    go true p f = absurd (some ZeroFrequency k k' f)
     go false p f = width (in_width n k.system.clock) refl (rw (system_free k p) at f)
       where
-        width : (w : Bool) → in_width n k.system.clock ≡ w → moved_in k (cond w (made (moved_by n k.system.clock)) (refused 7)) ≡ record { refusal = 0; clocks = k' } → Parts n k k'
+        width : (w : Bool) → in_width n k.system.clock ≡ w → moved_in k (cond w (Ok (moved_by n k.system.clock)) (Err Overflow)) ≡ record { ended = Ok tt; clocks = k' } → Parts n k k'
         width true q g = record { free = p; width = q; is = ap (λ (x : NewClocks). x.clocks) g }
-        width false q g = absurd (some 6 k k' g)
+        width false q g = absurd (some Overflow k k' g)
 
 pub moved_runs_lem : MovedRuns
 unfolding moved_by

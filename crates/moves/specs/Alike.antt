@@ -1,8 +1,7 @@
 -- Definitions for the proof of `MovedRuns`: what the peripheral can see of a clock set from a time on, the states whose waits don't reach back, and runs over two
 -- clock sets that look alike.
-use Rattle.std.specs.Prelude.{ℕ, ◌*◌, ◌≤◌, ◌<◌, false, List, [], ◌∷◌, ◌≡◌}
+use Rattle.std.specs.Prelude.{ℕ, ◌*◌, ◌≤◌, ◌<◌, false, List, [], ◌∷◌, ◌≡◌, Err, None, Ok, Option, Result, Some}
 use Rattle.time.specs.declared.Time.{Time}
-use Rattle.time.specs.declared.Count.TheVariants.{Of}
 use Rattle.time.specs.Time.{time_of, next_time}
 use Rattle.clocks.specs.Clocks.{has_zero, tap_ticks}
 use Rattle.domain.specs.Domain.{domain_half_edge, domain_half_ticks}
@@ -12,28 +11,20 @@ use Rattle.clocks.specs.declared.Clocks.{Clocks}
 use Rattle.clocks.specs.declared.tap.Tap.{Tap}
 use Rattle.clocks.specs.declared.wait.WaitState.{WaitState}
 use Rattle.clocks.specs.declared.wait.WaitState.TheVariants.{Running, Paused, Ready}
-use Rattle.waits.specs.declared.MaybeHalf.{MaybeHalf}
-use Rattle.waits.specs.declared.MaybeHalf.TheVariants.{NoHalf, Half}
-use Rattle.waits.specs.declared.MaybeWait.{MaybeWait}
-use Rattle.waits.specs.declared.MaybeWait.TheVariants.{NoWait, Waiting}
 use Rattle.iic.specs.Timing.{Timing, timing_of}
 use Rattle.iic.specs.declared.Iic.{Iic}
-use Rattle.time.specs.declared.Count.{Count}
-use Rattle.time.specs.declared.Count.TheVariants as count
-use Rattle.time.specs.declared.Moment.{Moment}
-use Rattle.time.specs.declared.Moment.TheVariants.{At, Refused}
 use Rattle.time.specs.declared.Clock.{Clock}
 use Rattle.time.specs.Clock.{after_of, edges_before_of}
 use Rattle.clocks.specs.declared.tap.Source.{Source}
 use Rattle.clocks.specs.declared.tap.Source.TheVariants.{System, Cpu, Watch, OnChip, Oscillator, Subclock}
-use Rattle.clocks.specs.declared.wait.NewWait.{NewWait}
-use Rattle.clocks.specs.declared.wait.NewWait.TheVariants as wait
 use Rattle.clocks.specs.declared.wait.Waited.{Waited}
-use Rattle.waits.specs.declared.NewHalf.{NewHalf}
-use Rattle.waits.specs.declared.NewHalf.TheVariants as half
 use Rattle.domain.specs.declared.Domain.{Domain}
-use Rattle.iic.specs.declared.Stepped.{Stepped}
 use Rattle.moves.specs.Statement.{AllFrom, From, outcomes}
+use Rattle.clocks.specs.declared.wait.ClockWait.{ClockWait}
+use Rattle.refusals.specs.declared.Refusal.{Refusal}
+use Rattle.refusals.specs.declared.Refusal.TheVariants.{Reversed}
+use Rattle.waits.specs.declared.HalfWait.{HalfWait}
+use Rattle.iic.specs.Answers.{Stepped}
 
 -- ## Clock sets
 
@@ -48,18 +39,18 @@ pub record Alike (k k' : Clocks) (s : Time) (o : ℕ) : Type 0 where
   -- counts, of any tap
   pub ticks : (t : Tap) (now : Time) → From s now → tap_ticks k now t ≡ tap_ticks k' now t
   -- the times of the edges after those counted, while the tap is available
-  pub later : (t : Tap) (now : Time) (n m : ℕ) → From s now → tap_ticks k now t ≡ Of n → n < m → edge_deadline t k m ≡ edge_deadline t k' m
+  pub later : (t : Tap) (now : Time) (n m : ℕ) → From s now → tap_ticks k now t ≡ Ok n → n < m → edge_deadline t k m ≡ edge_deadline t k' m
   -- half counts of the system clock, none below that of the ordinal, and the times of half edges from there on
   pub halves : (now : Time) → From s now → domain_half_ticks k.system now ≡ domain_half_ticks k'.system now
-  pub halves_from : (now : Time) (n : ℕ) → From s now → domain_half_ticks k.system now ≡ Of n → 2 * o ≤ n
+  pub halves_from : (now : Time) (n : ℕ) → From s now → domain_half_ticks k.system now ≡ Ok n → 2 * o ≤ n
   pub half_edges : (m : ℕ) → 2 * o ≤ m → domain_half_edge k.system m ≡ domain_half_edge k'.system m
 
 -- ## States
 
 -- a half wait that runs is for a half edge from that of the ordinal on; a paused one may have any number left
-abbrev pub AheadHalf : ℕ → MaybeHalf → Type 0
-AheadHalf o NoHalf = Unit {0}
-AheadHalf o (Half w) = w.paused ≡ false → 2 * o ≤ w.count
+abbrev pub AheadHalf : ℕ → Option HalfWait → Type 0
+AheadHalf o None = Unit {0}
+AheadHalf o (Some w) = w.paused ≡ false → 2 * o ≤ w.count
 
 -- a wait that runs is for an edge whose time is the same over both sets: of system/1, an edge from the ordinal on
 abbrev pub AheadState : Clocks → Clocks → Tap → WaitState → Type 0
@@ -67,9 +58,9 @@ AheadState k k' t (Running n) = edge_deadline t k n ≡ edge_deadline t k' n
 AheadState k k' t (Paused n) = Unit {0}
 AheadState k k' t (Ready at) = Unit {0}
 
-abbrev pub AheadWait : Clocks → Clocks → MaybeWait → Type 0
-AheadWait k k' NoWait = Unit {0}
-AheadWait k k' (Waiting w) = AheadState k k' w.tap w.state
+abbrev pub AheadWait : Clocks → Clocks → Option ClockWait → Type 0
+AheadWait k k' None = Unit {0}
+AheadWait k k' (Some w) = AheadState k k' w.tap w.state
 
 -- all four: the clock's, the monitor's, the filter's and the setup's
 abbrev pub AheadIn : Clocks → Clocks → ℕ → Timing → Type 0
@@ -80,27 +71,25 @@ Ahead k k' o s = AheadIn k k' o (timing_of s)
 
 -- ## New waits: a refused one is none
 
-abbrev pub NewHalfAhead : ℕ → NewHalf → Type 0
-NewHalfAhead o (half.Made w) = AheadHalf o (Half w)
-NewHalfAhead o (half.Refused n) = Unit {0}
+abbrev pub NewAhead : {W : Type 0} → (Option W → Type 0) → Result W Refusal → Type 0
+NewAhead ahead (Ok w) = ahead (Some w)
+NewAhead ahead (Err n) = Unit {0}
 
-abbrev pub NewWaitAhead : Clocks → Clocks → NewWait → Type 0
-NewWaitAhead k k' (wait.Made w) = AheadWait k k' (Waiting w)
-NewWaitAhead k k' (wait.Refused n) = Unit {0}
-
--- the same half wait over both sets, and ahead
-pub record HalfAlike (o : ℕ) (w w' : NewHalf) : Type 0 where
+-- the same wait over both sets, and ahead: a half wait, or one for edges of a tap
+pub record NewAlike {W : Type 0} (ahead : Option W → Type 0) (w w' : Result W Refusal) : Type 0 where
   pub same : w ≡ w'
-  pub ahead : NewHalfAhead o w
+  pub new_ahead : NewAhead ahead w
 
-pub record WaitAlike (k k' : Clocks) (w w' : NewWait) : Type 0 where
-  pub same : w ≡ w'
-  pub ahead : NewWaitAhead k k' w
+abbrev pub HalfAlike : ℕ → Result HalfWait Refusal → Result HalfWait Refusal → Type 0
+HalfAlike o = NewAlike (AheadHalf o)
+
+abbrev pub WaitAlike : Clocks → Clocks → Result ClockWait Refusal → Result ClockWait Refusal → Type 0
+WaitAlike k k' = NewAlike (AheadWait k k')
 
 -- a paused or resumed one
 pub record WaitedAlike (k k' : Clocks) (x x' : Waited) : Type 0 where
   pub same : x ≡ x'
-  pub ahead : AheadWait k k' (Waiting x.wait)
+  pub ahead : AheadWait k k' (Some x.wait)
 
 -- ## A step over each of two sets
 
@@ -136,16 +125,16 @@ AlikeAgree =
 -- ## Clocks
 
 -- an edge before the time s, or one below the clock's ordinal
-abbrev pub Early : Time → Moment → Type 0
-Early s (At t) = time_of t < time_of s
-Early s (Refused r) = r ≡ 8
+abbrev pub Early : Time → Result Time Refusal → Type 0
+Early s (Ok t) = time_of t < time_of s
+Early s (Err r) = r ≡ Reversed
 
 -- `edge` and `counted` of one clock, `edge'` and `counted'` of the clock that starts at s with the ordinal o
-pub record EdgesAlike (edge edge' : ℕ → Moment) (counted counted' : Time → Count) (s : Time) (o : ℕ) : Type 0 where
+pub record EdgesAlike (edge edge' : ℕ → Result Time Refusal) (counted counted' : Time → Result ℕ Refusal) (s : Time) (o : ℕ) : Type 0 where
   pub edges : (m : ℕ) → o ≤ m → edge m ≡ edge' m
   pub counts : (now : Time) → From s now → counted now ≡ counted' now
-  pub counts_from : (now : Time) (n : ℕ) → From s now → counted now ≡ count.Of n → o ≤ n
-  pub start : edge o ≡ At s
+  pub counts_from : (now : Time) (n : ℕ) → From s now → counted now ≡ Ok n → o ≤ n
+  pub start : edge o ≡ Ok s
   pub before : (m : ℕ) → m < o → Early s (edge m)
 
 -- two clocks that are alike, as the set asks for their edges and counts

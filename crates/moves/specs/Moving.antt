@@ -1,12 +1,9 @@
 -- Laws: a clock whose start was moved up to a time before the last one is alike from there on (document 02, (k)). Assumes nothing.
-use Rattle.std.specs.Prelude.{ℕ, ◌+◌, ◌-◌, ◌*◌, ◌^◌, ◌≤◌, ◌<◌, Bool, true, false, cond, ◌≡◌, ltb}
+use Rattle.std.specs.Prelude.{ℕ, ◌+◌, ◌-◌, ◌*◌, ◌^◌, ◌≤◌, ◌<◌, Bool, true, false, cond, ◌≡◌, ltb, Err, Ok, Result}
 use Rattle.std.proofs.Math.Path.{refl, sym, ap, subst}
 use Rattle.std.proofs.Common.{◌∙◌, ⊎_elim, ltb-false}
 use native.Mathlib.Omega.{arith}
 use Rattle.time.specs.declared.Time.{Time}
-use Rattle.time.specs.declared.Count.{Count}
-use Rattle.time.specs.declared.Count.TheVariants as count
-use Rattle.time.specs.declared.Moment.TheVariants as moment
 use Rattle.time.specs.declared.Clock.{Clock}
 use Rattle.time.specs.Clock.{after_of, edge_of, edges_before, edges_before_of, moved_by, start_after, zero_in}
 use Rattle.time.proofs.Laws.{after_is, edge_start, edges_before_ge, lt_or_le, moment_at, next_last, next_later, no_zero, time_of_from}
@@ -15,9 +12,11 @@ use Rattle.time.proofs.NextLaws.{edge_steps}
 use Rattle.time.specs.Time.{moment_of, next_time, time_from, time_of}
 use Rattle.moves.specs.Statement.{From}
 use Rattle.moves.specs.Alike.{Early, EdgesAlike}
+use Rattle.refusals.specs.declared.Refusal.{Refusal}
+use Rattle.refusals.specs.declared.Refusal.TheVariants.{ZeroFrequency, Reversed}
 
 -- the edges at or before now
-abbrev counted_at : Clock → Time → Count
+abbrev counted_at : Clock → Time → Result ℕ Refusal
 counted_at c now = edges_before_of c (next_time now)
 
 -- the time at which the moved clock starts
@@ -50,7 +49,7 @@ module _ (c : Clock) (n : ℕ) (sound : zero_in c ≡ false) (ordinal : c.ordina
   new_ordinal = refl
 
   -- no count below the new ordinal
-  counted_from : (now : Time) (x : ℕ) → From (moved_start n c) now → count.Of (edges_before c (time_of (next_time now))) ≡ count.Of x → c.ordinal + n ≤ x
+  counted_from : (now : Time) (x : ℕ) → From (moved_start n c) now → ◌≡◌ {A = Result ℕ Refusal} (Ok (edges_before c (time_of (next_time now)))) (Ok x) → c.ordinal + n ≤ x
   counted_from now x from e =
       let f : edges_before c (time_of (next_time now)) ≡ x = cc in
       let g : edges_before (moved_by n c) (time_of (next_time now)) ≡ x = count_moved c n (time_of (next_time now)) pos ordinal (within now from) ∙ f in
@@ -70,7 +69,7 @@ module _ (c : Clock) (n : ℕ) (sound : zero_in c ≡ false) (ordinal : c.ordina
           over : {x y l : ℕ} → x < y → y + 1 < l → x < l
           over p q = omega arith
 
-      go : (b : Bool) → ltb m c.ordinal ≡ b → Early (moved_start n c) (cond (zero_in c) (moment.Refused 1) (cond b (moment.Refused 8) (moment_of (edge_of c m))))
+      go : (b : Bool) → ltb m c.ordinal ≡ b → Early (moved_start n c) (cond (zero_in c) (Err ZeroFrequency) (cond b (Err Reversed) (moment_of (edge_of c m))))
       go true e = rw sound refl
       go false e = rw sound (at (ltb-false m c.ordinal e))
 
@@ -80,7 +79,7 @@ module _ (c : Clock) (n : ℕ) (sound : zero_in c ≡ false) (ordinal : c.ordina
     edges = λ m le.
         after_is c m sound (omega arith) ∙ ap moment_of (sym (edge_moved c n m pos le))
         ∙ sym (after_is (moved_by n c) m (moved_sound c n sound) (subst (λ (x : ℕ). x ≤ m) (sym new_ordinal) le));
-    counts = λ now from. rw (sound, moved_sound c n sound) (ap count.Of (sym (count_moved c n (time_of (next_time now)) pos ordinal (within now from))));
+    counts = λ now from. rw (sound, moved_sound c n sound) (ap Ok (sym (count_moved c n (time_of (next_time now)) pos ordinal (within now from))));
     counts_from = λ now x from e. counted_from now x from (rw sound at e);
     start = after_is c (c.ordinal + n) sound (omega arith) ∙ ap moment_of (edge_start c n) ∙ moment_at (start_after n c) (less early);
     before = λ m less. before_start slow m less;

@@ -1,26 +1,24 @@
 -- Definitions: document 02, (k), on runs before and after the system clock's start is moved up. The proof is `moved_runs_lem` in proofs/MovedRuns.antt.
-use Rattle.std.specs.Prelude.{ℕ, ◌+◌, ◌≤◌, ◌<◌, ◌^◌, true, List, [], ◌∷◌, ◌≡◌}
+use Rattle.std.specs.Prelude.{ℕ, ◌+◌, ◌≤◌, ◌<◌, ◌^◌, true, List, [], ◌∷◌, ◌≡◌, Err, None, Ok, Option, Result, Some}
 use Rattle.time.specs.declared.Time.{Time}
 use Rattle.time.specs.Time.{time_of}
 use Rattle.clocks.specs.declared.Clocks.{Clocks}
 use Rattle.clocks.specs.declared.tap.Source.{Source}
 use Rattle.clocks.specs.declared.tap.Source.TheVariants.{System, Cpu, Watch, OnChip, Oscillator, Subclock}
 use Rattle.clocks.specs.declared.tap.Tap.{Tap}
-use Rattle.clocks.specs.declared.wait.Deadline.{Deadline}
-use Rattle.clocks.specs.declared.wait.Deadline.TheVariants as deadline
 use Rattle.clocks.specs.declared.wait.WaitState.{WaitState}
 use Rattle.clocks.specs.declared.wait.WaitState.TheVariants.{Running, Paused, Ready}
 use Rattle.clocks.specs.Moves.{move_system}
 use Rattle.clocks.specs.Tap.{system_tap}
 use Rattle.clocks.specs.Wait.{edge_deadline}
-use Rattle.waits.specs.declared.MaybeHalf.{MaybeHalf}
-use Rattle.waits.specs.declared.MaybeHalf.TheVariants.{NoHalf, Half}
-use Rattle.waits.specs.declared.MaybeWait.{MaybeWait}
-use Rattle.waits.specs.declared.MaybeWait.TheVariants.{NoWait, Waiting}
 use Rattle.waits.specs.Half.{half_deadline}
 use Rattle.iic.specs.declared.Iic.{Iic}
 use Rattle.hosts.specs.Calls.{Call, Outcome, outcome_of}
 use Rattle.hosts.specs.Calls as call
+use Rattle.clocks.specs.declared.wait.ClockWait.{ClockWait}
+use Rattle.refusals.specs.declared.Refusal.{Refusal}
+use Rattle.refusals.specs.declared.Refusal.TheVariants.{Reversed}
+use Rattle.waits.specs.declared.HalfWait.{HalfWait}
 
 -- a time not before the start s
 abbrev pub From : Time → Time → Type 0
@@ -29,14 +27,14 @@ From s now = time_of s ≤ time_of now
 -- ## A state with no wait due before s: each of its running waits on the system clock has its own time not before s
 
 -- none, a time not before s, or a refusal other than 8: 8 is drawn by an edge below the clock's ordinal, which lies before its start
-abbrev pub NotBefore : Time → Deadline → Type 0
-NotBefore s deadline.Never = Unit {0}
-NotBefore s (deadline.At t) = From s t
-NotBefore s (deadline.Refused r) = r ≡ 8 → ⊥
+abbrev pub NotBefore : Time → Result (Option Time) Refusal → Type 0
+NotBefore s (Ok None) = Unit {0}
+NotBefore s (Ok (Some t)) = From s t
+NotBefore s (Err r) = r ≡ Reversed → ⊥
 
-abbrev pub OwnHalf : Clocks → Time → MaybeHalf → Type 0
-OwnHalf k s NoHalf = Unit {0}
-OwnHalf k s (Half w) = NotBefore s (half_deadline w k.system)
+abbrev pub OwnHalf : Clocks → Time → Option HalfWait → Type 0
+OwnHalf k s None = Unit {0}
+OwnHalf k s (Some w) = NotBefore s (half_deadline w k.system)
 
 -- a wait on a tap of the system clock, divided or not; one for another clock may lie before s
 abbrev pub OwnEdge : Clocks → Time → Source → ℕ → ℕ → Type 0
@@ -53,9 +51,9 @@ OwnState k s t (Running n) = OwnEdge k s t.source t.divide n
 OwnState k s t (Paused n) = Unit {0}
 OwnState k s t (Ready at) = Unit {0}
 
-abbrev pub OwnWait : Clocks → Time → MaybeWait → Type 0
-OwnWait k s NoWait = Unit {0}
-OwnWait k s (Waiting w) = OwnState k s w.tap w.state
+abbrev pub OwnWait : Clocks → Time → Option ClockWait → Type 0
+OwnWait k s None = Unit {0}
+OwnWait k s (Some w) = OwnState k s w.tap w.state
 
 -- the own times of the four waits: gate, ICE and reset don't matter
 abbrev pub NoneBefore : Clocks → Time → Iic → Type 0
@@ -91,7 +89,7 @@ outcomes k u (x ∷ l) = outcome_of k x u ∷ outcomes k (outcome_of k x u).stat
 
 -- the set k, moved by n, is k': neither 1 nor 7 was drawn
 abbrev pub Moved : Clocks → ℕ → Clocks → Type 0
-Moved k n k' = move_system n k ≡ record { refusal = 0; clocks = k' }
+Moved k n k' = move_system n k ≡ record { ended = Ok tt; clocks = k' }
 
 -- the new start
 abbrev pub new_start : Clocks → Time

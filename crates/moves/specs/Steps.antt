@@ -1,6 +1,6 @@
 -- Laws: over two clock sets that are alike, each step of the peripheral in time ends alike and keeps its waits ahead. A step asks the clocks only by starting,
 -- pausing, resuming or looking at a wait. Assumes nothing.
-use Rattle.std.specs.Prelude.{ℕ, ◌+◌, ◌*◌, ◌≤◌, Bool, ◌&&◌, cond, ◌≡◌, refl}
+use Rattle.std.specs.Prelude.{ℕ, ◌+◌, ◌*◌, ◌≤◌, Bool, ◌&&◌, cond, ◌≡◌, refl, Err, None, Ok, Option, Result, Some, false, true, ⊤}
 use Rattle.std.proofs.Math.Bool.{true, false, not}
 use Rattle.std.proofs.Common.{ap, subst, arith}
 use Rattle.bus.specs.Bits.{has}
@@ -9,7 +9,7 @@ use Rattle.frames.specs.Parts.{is_done, starved}
 use Rattle.waits.specs.Ends.{due_of, wait_end}
 use Rattle.waits.specs.Half.{made_half}
 use Rattle.rates.specs.Rates.{monitor_halves, period_of, setup_cycles}
-use Rattle.iic.specs.Answers.{and_then, fine, go_on, refused}
+use Rattle.iic.specs.Answers.{Stepped, and_then, fine, go_on, refused}
 use Rattle.registers.specs.Bits.{BBSY, IICRST}
 use Rattle.iic.specs.Clocking.{clock_step_of, filter_fires_of, fire_clock_of, fire_filter_of, fire_monitor_of, fire_setup_of, firing, monitor_step_of, stretch_of, toggle_of}
 use Rattle.iic.specs.Conditions.{begun_of, bus_edge_of, clocked_of, condition_high, is_start_hold, raised_of}
@@ -24,41 +24,24 @@ use Rattle.iic.specs.Shift.{load_transmit_of, rising_of, set_hold_of}
 use Rattle.iic.specs.State.{commanded, conditioned, drive_scl, enabled, held, is_transmit_hold, master, stop_shifter_of, transmits}
 use Rattle.iic.specs.Timing.{Dropping}
 use Rattle.iic.specs.TimingLaws.{begun, bus_edge, clocked, continued, end_frame, fall_data, fall_idle, fall_taken, follow, hold, load, next_frame, pull_sda, raised, rising, shown, take_control, write_mode}
-use Rattle.iic.specs.Waiting.{clock_from, filter_from, half_from, monitor_from, schedule_filter_of, setup_from, start_clock_of, start_monitor_of, start_setup_of, turn_clock_of, turn_filter_of, turn_half_in, turn_monitor_of, turn_setup_of, turn_wait_in, wait_from, wants_filter}
+use Rattle.iic.specs.Waiting.{at_wait, clock_from, filter_from, monitor_from, schedule_filter_of, setup_from, start_clock_of, start_monitor_of, start_setup_of, turn_clock_of, turn_filter_of, turn_monitor_of, turn_setup_of, wait_from, wants_filter}
 use Rattle.iic.specs.Writing.{control_taken, enter_reset_of, give_data_of, out_of_reset_of, pull_sda_of, send_on_of, stop_receive_of, take_control_of, takes_command, write_address_of, write_at, write_command_of, write_control_of, write_data_of, write_enable_of, write_mode_of, write_status_of}
 use Rattle.moves.specs.Waits.{half_after_lem, half_ends, half_turn, made_ahead, system_wait, wait_ends, wait_turn}
 use Rattle.bus.specs.declared.Levels.{Levels}
 use Rattle.time.specs.declared.Time.{Time}
 use Rattle.clocks.specs.declared.Clocks.{Clocks}
 use Rattle.clocks.specs.declared.wait.ClockWait.{ClockWait}
-use Rattle.clocks.specs.declared.wait.NewWait.{NewWait}
-use Rattle.clocks.specs.declared.wait.NewWait.TheVariants as wait
-use Rattle.clocks.specs.declared.wait.Deadline.{Deadline}
 use Rattle.frames.specs.declared.Frame.{Frame}
-use Rattle.frames.specs.declared.Framing.{Framing}
-use Rattle.frames.specs.declared.Framing.TheVariants.{InFrame, NoFrame}
 use Rattle.frames.specs.declared.Phase.{Phase}
 use Rattle.frames.specs.declared.Phase.TheVariants.{Ack, Data, Done}
-use Rattle.waits.specs.declared.Due.{Due}
-use Rattle.waits.specs.declared.Due.TheVariants as due
 use Rattle.waits.specs.declared.HalfWait.{HalfWait}
-use Rattle.waits.specs.declared.MaybeHalf.{MaybeHalf}
-use Rattle.waits.specs.declared.MaybeHalf.TheVariants.{NoHalf, Half}
-use Rattle.waits.specs.declared.MaybeWait.{MaybeWait}
-use Rattle.waits.specs.declared.MaybeWait.TheVariants.{NoWait, Waiting}
-use Rattle.waits.specs.declared.NewHalf.{NewHalf}
-use Rattle.waits.specs.declared.NewHalf.TheVariants as half
-use Rattle.iic.specs.declared.Command.{Command}
-use Rattle.iic.specs.declared.Command.TheVariants.{Commanded, NoCommand}
 use Rattle.iic.specs.declared.Hold.TheVariants.{NoHold, Transmit}
 use Rattle.registers.specs.declared.Register.{Register}
 use Rattle.registers.specs.declared.Register.TheVariants.{ICCR1, ICCR2, ICDRR, ICDRT, ICIER, ICMR, ICSR, SAR}
-use Rattle.iic.specs.declared.Ended.{Ended}
-use Rattle.iic.specs.declared.Ended.TheVariants.{Finished, Refused}
 use Rattle.iic.specs.declared.Iic.{Iic}
-use Rattle.iic.specs.declared.Stepped.{Stepped}
 use Rattle.moves.specs.Statement.{From}
-use Rattle.moves.specs.Alike.{Ahead, AheadHalf, AheadIn, AheadWait, Alike, Both, HalfAlike, Keeps, KeepsOver, NewHalfAhead, NewWaitAhead, WaitAlike}
+use Rattle.moves.specs.Alike.{Ahead, AheadHalf, AheadIn, AheadWait, Alike, Both, HalfAlike, Keeps, KeepsOver, NewAhead, NewAlike, WaitAlike}
+use Rattle.refusals.specs.declared.Refusal.{Refusal}
 
 -- the steps that ask no clock keep each wait or drop it
 dropping : (k k' : Clocks) (o : ℕ) → Dropping (AheadIn k k' o)
@@ -76,49 +59,47 @@ module _ {k k' : Clocks} {o : ℕ} where
   -- the Rust's `?`
   pub then_both : {x x' : Stepped} {f f' : Iic → Stepped} → Both k k' o x x' → ((u : Iic) → Ahead k k' o u → Both k k' o (f u) (f' u))
       → Both k k' o (and_then x f) (and_then x' f')
-  then_both {x} {x'} {f} {f'} h g = subst (λ (z : Stepped). Both k k' o (and_then x f) (and_then z f')) h.same (go x.ended)
+  then_both {x} {x'} {f} {f'} h g = subst (λ (z : Stepped). Both k k' o (and_then x f) (and_then z f')) h.same (go x.answer)
     where
-      go : (e : Ended) → Both k k' o (go_on e x f) (go_on e x f')
-      go Finished = g x.state h.ahead
-      go (Refused n) = record { same = refl; ahead = h.ahead }
+      go : (e : Result ⊤ Refusal) → Both k k' o (go_on e x f) (go_on e x f')
+      go (Ok v) = g x.state h.ahead
+      go (Err n) = record { same = refl; ahead = h.ahead }
 
   -- what a wait brings
-  pub firing_both : {d d' : Due} {x x' : Stepped} (u : Iic) → d ≡ d' → Ahead k k' o u → Both k k' o x x' → Both k k' o (firing d u x) (firing d' u x')
-  firing_both {d} {d'} {x} {x'} u e h g = subst (λ (z : Due). Both k k' o (firing d u x) (firing z u x')) e (go d)
+  pub firing_both : {d d' : Result Bool Refusal} {x x' : Stepped} (u : Iic) → d ≡ d' → Ahead k k' o u → Both k k' o x x' → Both k k' o (firing d u x) (firing d' u x')
+  firing_both {d} {d'} {x} {x'} u e h g = subst (λ (z : Result Bool Refusal). Both k k' o (firing d u x) (firing z u x')) e (go d)
     where
-      go : (d : Due) → Both k k' o (firing d u x) (firing d u x')
-      go due.Now = g
-      go due.NotNow = alone (fine u) h
-      go (due.Refused n) = alone (refused n u) h
+      go : (d : Result Bool Refusal) → Both k k' o (firing d u x) (firing d u x')
+      go (Ok true) = g
+      go (Ok false) = alone (fine u) h
+      go (Err n) = alone (refused n u) h
 
   -- a wait that was made is the state's
-  half_from_lem : (set : MaybeHalf → Iic → Iic) {w w' : NewHalf} (u : Iic) → HalfAlike o w w' → Ahead k k' o u
-      → ((v : HalfWait) → AheadHalf o (Half v) → Ahead k k' o (set (Half v) u)) → Both k k' o (half_from set w u) (half_from set w' u)
-  half_from_lem set {w} {w'} u a h keeps = record { same = ap (λ (z : NewHalf). half_from set z u) a.same; ahead = go w a.ahead }
+  wait_from_lem : {W : Type 0} (A : Option W → Type 0) (set : Option W → Iic → Iic) {w w' : Result W Refusal} (u : Iic) → NewAlike A w w' → Ahead k k' o u
+      → ((v : W) → A (Some v) → Ahead k k' o (set (Some v) u)) → Both k k' o (wait_from set w u) (wait_from set w' u)
+  wait_from_lem {W} A set {w} {w'} u a h keeps = record { same = ap (λ (z : Result W Refusal). wait_from set z u) a.same; ahead = go w a.new_ahead }
     where
-      go : (w : NewHalf) → NewHalfAhead o w → Ahead k k' o (half_from set w u).state
-      go (half.Made v) g = keeps v g
-      go (half.Refused n) g = h
+      go : (w : Result W Refusal) → NewAhead A w → Ahead k k' o (wait_from set w u).state
+      go (Ok v) g = keeps v g
+      go (Err n) g = h
 
-  wait_from_lem : (set : MaybeWait → Iic → Iic) {w w' : NewWait} (u : Iic) → WaitAlike k k' w w' → Ahead k k' o u
-      → ((v : ClockWait) → AheadWait k k' (Waiting v) → Ahead k k' o (set (Waiting v) u)) → Both k k' o (wait_from set w u) (wait_from set w' u)
-  wait_from_lem set {w} {w'} u a h keeps = record { same = ap (λ (z : NewWait). wait_from set z u) a.same; ahead = go w a.ahead }
-    where
-      go : (w : NewWait) → NewWaitAhead k k' w → Ahead k k' o (wait_from set w u).state
-      go (wait.Made v) g = keeps v g
-      go (wait.Refused n) g = h
+  clock_from_lem : {w w' : Result HalfWait Refusal} (u : Iic) → HalfAlike o w w' → Ahead k k' o u → Both k k' o (clock_from w u) (clock_from w' u)
+  clock_from_lem u a h = wait_from_lem (AheadHalf o) set_clock_wait u a h (λ v g. (g, h.1, h.2, h.3))
 
-  clock_from_lem : {w w' : NewHalf} (u : Iic) → HalfAlike o w w' → Ahead k k' o u → Both k k' o (clock_from w u) (clock_from w' u)
-  clock_from_lem u a h = half_from_lem set_clock_wait u a h (λ v g. (g, h.1, h.2, h.3))
+  monitor_from_lem : {w w' : Result HalfWait Refusal} (u : Iic) → HalfAlike o w w' → Ahead k k' o u → Both k k' o (monitor_from w u) (monitor_from w' u)
+  monitor_from_lem u a h = wait_from_lem (AheadHalf o) set_monitor_wait u a h (λ v g. (h.0, g, h.2, h.3))
 
-  monitor_from_lem : {w w' : NewHalf} (u : Iic) → HalfAlike o w w' → Ahead k k' o u → Both k k' o (monitor_from w u) (monitor_from w' u)
-  monitor_from_lem u a h = half_from_lem set_monitor_wait u a h (λ v g. (h.0, g, h.2, h.3))
+  filter_from_lem : {w w' : Result ClockWait Refusal} (u : Iic) → WaitAlike k k' w w' → Ahead k k' o u → Both k k' o (filter_from w u) (filter_from w' u)
+  filter_from_lem u a h = wait_from_lem (AheadWait k k') set_filter_wait u a h (λ v g. (h.0, h.1, g, h.3))
 
-  filter_from_lem : {w w' : NewWait} (u : Iic) → WaitAlike k k' w w' → Ahead k k' o u → Both k k' o (filter_from w u) (filter_from w' u)
-  filter_from_lem u a h = wait_from_lem set_filter_wait u a h (λ v g. (h.0, h.1, g, h.3))
+  setup_from_lem : {w w' : Result ClockWait Refusal} (u : Iic) → WaitAlike k k' w w' → Ahead k k' o u → Both k k' o (setup_from w u) (setup_from w' u)
+  setup_from_lem u a h = wait_from_lem (AheadWait k k') set_setup_wait u a h (λ v g. (h.0, h.1, h.2, g))
 
-  setup_from_lem : {w w' : NewWait} (u : Iic) → WaitAlike k k' w w' → Ahead k k' o u → Both k k' o (setup_from w u) (setup_from w' u)
-  setup_from_lem u a h = wait_from_lem set_setup_wait u a h (λ v g. (h.0, h.1, h.2, g))
+  -- a step of a wait, where there is one
+  at_wait_both : {W : Type 0} (A : Option W → Type 0) (w : Option W) (f f' : W → Iic → Stepped) (u : Iic) → A w → Ahead k k' o u
+      → ((v : W) → A (Some v) → Both k k' o (f v u) (f' v u)) → Both k k' o (at_wait w f u) (at_wait w f' u)
+  at_wait_both A None f f' u g h both = alone (fine u) h
+  at_wait_both A (Some w) f f' u g h both = both w g
 
 module _ (k k' : Clocks) (s : Time) (o : ℕ) (alike : Alike k k' s o) (now : Time) (from : From s now) where
   -- ## Waits start, pause and resume
@@ -141,41 +122,25 @@ module _ (k k' : Clocks) (s : Time) (o : ℕ) (alike : Alike k k' s o) (now : Ti
 
   pub turn_clock : (gate : Bool) → KeepsOver k k' o (turn_clock_of gate now)
   unfolding turn_clock_of
-  turn_clock gate u h = go u.clock_wait h.0
-    where
-      go : (w : MaybeHalf) → AheadHalf o w → Both k k' o (turn_half_in clock_from gate now k.system w u) (turn_half_in clock_from gate now k'.system w u)
-      go NoHalf g = alone (fine u) h
-      go (Half w) g = clock_from_lem u (half_turn k k' s o alike gate now w from g) h
+  turn_clock gate u h = at_wait_both (AheadHalf o) u.clock_wait _ _ u h.0 h (λ w g. clock_from_lem u (half_turn k k' s o alike gate now w from g) h)
 
   pub turn_monitor : (gate : Bool) → KeepsOver k k' o (turn_monitor_of gate now)
   unfolding turn_monitor_of
-  turn_monitor gate u h = go u.monitor_wait h.1
-    where
-      go : (w : MaybeHalf) → AheadHalf o w → Both k k' o (turn_half_in monitor_from gate now k.system w u) (turn_half_in monitor_from gate now k'.system w u)
-      go NoHalf g = alone (fine u) h
-      go (Half w) g = monitor_from_lem u (half_turn k k' s o alike gate now w from g) h
+  turn_monitor gate u h = at_wait_both (AheadHalf o) u.monitor_wait _ _ u h.1 h (λ w g. monitor_from_lem u (half_turn k k' s o alike gate now w from g) h)
 
   pub turn_filter : (gate : Bool) → Keeps k k' o (turn_filter_of gate now)
   unfolding turn_filter_of
-  turn_filter gate u h = go u.filter_wait h.2
-    where
-      go : (w : MaybeWait) → AheadWait k k' w → Both k k' o (turn_wait_in filter_from gate now k w u) (turn_wait_in filter_from gate now k' w u)
-      go NoWait g = alone (fine u) h
-      go (Waiting w) g = filter_from_lem u (wait_turn k k' s o alike gate now w from g) h
+  turn_filter gate u h = at_wait_both (AheadWait k k') u.filter_wait _ _ u h.2 h (λ w g. filter_from_lem u (wait_turn k k' s o alike gate now w from g) h)
 
   pub turn_setup : (gate : Bool) → Keeps k k' o (turn_setup_of gate now)
   unfolding turn_setup_of
-  turn_setup gate u h = go u.setup_wait h.3
-    where
-      go : (w : MaybeWait) → AheadWait k k' w → Both k k' o (turn_wait_in setup_from gate now k w u) (turn_wait_in setup_from gate now k' w u)
-      go NoWait g = alone (fine u) h
-      go (Waiting w) g = setup_from_lem u (wait_turn k k' s o alike gate now w from g) h
+  turn_setup gate u h = at_wait_both (AheadWait k k') u.setup_wait _ _ u h.3 h (λ w g. setup_from_lem u (wait_turn k k' s o alike gate now w from g) h)
 
   -- ## `kick`, `release_hold`
 
-  command_in_lem : (c : Command) → KeepsOver k k' o (command_in c now)
-  command_in_lem NoCommand u h = alone (fine u) h
-  command_in_lem (Commanded start) u h = start_clock (begun_of start u) (begun (dropping k k' o) start u h)
+  command_in_lem : (c : Option Bool) → KeepsOver k k' o (command_in c now)
+  command_in_lem None u h = alone (fine u) h
+  command_in_lem (Some start) u h = start_clock (begun_of start u) (begun (dropping k k' o) start u h)
 
   launch : (f : Frame) → KeepsOver k k' o (launch_of f now)
   unfolding launch_of low_half_of
@@ -184,9 +149,9 @@ module _ (k k' : Clocks) (s : Time) (o : ℕ) (alike : Alike k k' s o) (now : Ti
       (if_both (starved f) (alone (fine (set_hold_of Transmit u)) (hold (dropping k k' o) Transmit u h))
       (start_clock (low_half_of (level_at f.phase f u) u) h))
 
-  launch_in_lem : (fr : Framing) → KeepsOver k k' o (launch_in fr now)
-  launch_in_lem NoFrame u h = alone (fine u) h
-  launch_in_lem (InFrame f) u h = launch f u h
+  launch_in_lem : (fr : Option Frame) → KeepsOver k k' o (launch_in fr now)
+  launch_in_lem None u h = alone (fine u) h
+  launch_in_lem (Some f) u h = launch f u h
 
   pub kick : KeepsOver k k' o (kick_of now)
   unfolding kick_of begin_condition_of clock_frame_of
@@ -208,12 +173,12 @@ module _ (k k' : Clocks) (s : Time) (o : ℕ) (alike : Alike k k' s o) (now : Ti
 
   -- ## What filtered levels bring
 
-  longer_both : (w : MaybeHalf) (u : Iic) → AheadHalf o w → Ahead k k' o u → Both k k' o (longer w u) (longer w u)
-  longer_both NoHalf u g h = alone (fine u) h
-  longer_both (Half w) u g h =
+  longer_both : (w : Option HalfWait) (u : Iic) → AheadHalf o w → Ahead k k' o u → Both k k' o (longer w u) (longer w u)
+  longer_both None u g h = alone (fine u) h
+  longer_both (Some w) u g h =
       let n : ℕ = w.count + 4 * period_of u.rates u.registers.control in
       clock_from_lem {w = made_half w.paused (fits n)} u
-      record { same = refl; ahead = made_ahead o w.paused n (λ e. let l : 2 * o ≤ w.count = g e in omega arith) } h
+      record { same = refl; new_ahead = made_ahead o w.paused n (λ e. let l : 2 * o ≤ w.count = g e in omega arith) } h
 
   insert_wait : KeepsOver k k' o (λ x. insert_wait_of)
   unfolding insert_wait_of
@@ -225,9 +190,9 @@ module _ (k k' : Clocks) (s : Time) (o : ℕ) (alike : Alike k k' s o) (now : Ti
   fall_at_lem Ack f u h = insert_wait (fall_taken_of f now u) (fall_taken (dropping k k' o) f now u h)
   fall_at_lem Done f u h = alone (fine u) h
 
-  fall_in_lem : (fr : Framing) → KeepsOver k k' o (λ x. fall_in fr now)
-  fall_in_lem NoFrame u h = alone (fine (fall_idle_of u)) (fall_idle (dropping k k' o) u h)
-  fall_in_lem (InFrame f) u h = fall_at_lem f.phase f u h
+  fall_in_lem : (fr : Option Frame) → KeepsOver k k' o (λ x. fall_in fr now)
+  fall_in_lem None u h = alone (fine (fall_idle_of u)) (fall_idle (dropping k k' o) u h)
+  fall_in_lem (Some f) u h = fall_at_lem f.phase f u h
 
   fall_on_lem : KeepsOver k k' o (λ x. fall_on now)
   unfolding fall_of
@@ -272,7 +237,7 @@ module _ (k k' : Clocks) (s : Time) (o : ℕ) (alike : Alike k k' s o) (now : Ti
   toggle u h =
       if_both (master u && not (held u))
       (then_both (start_clock (drive_scl (not u.lines.drive.scl) u) h)
-      (λ v g. if_both v.lines.drive.scl (start_monitor v g) (alone (fine (set_monitor_wait NoHalf v)) (g.0, tt, g.2, g.3))))
+      (λ v g. if_both v.lines.drive.scl (start_monitor v g) (alone (fine (set_monitor_wait None v)) (g.0, tt, g.2, g.3))))
       (alone (fine u) h)
 
   clock_step : KeepsOver k k' o (clock_step_of now)
@@ -287,17 +252,17 @@ module _ (k k' : Clocks) (s : Time) (o : ℕ) (alike : Alike k k' s o) (now : Ti
   filter_fires : KeepsOver k k' o (filter_fires_of now)
   unfolding filter_fires_of filter_pass_of
   filter_fires u h =
-      then_both (filtered_edges u.lines.filtered (set_filter_wait NoWait (filter_pass_of u)) (h.0, h.1, tt, h.3)) schedule_filter
+      then_both (filtered_edges u.lines.filtered (set_filter_wait None (filter_pass_of u)) (h.0, h.1, tt, h.3)) schedule_filter
 
   pub fire_filter : Keeps k k' o (λ x u. fire_filter_of (wait_end u.filter_wait x) now x.system u)
   unfolding fire_filter_of
-  fire_filter u h = firing_both u (ap (λ (d : Deadline). due_of d now) (wait_ends k k' s o alike u.filter_wait h.2)) h (filter_fires u h)
+  fire_filter u h = firing_both u (ap (λ (d : Result (Option Time) Refusal). due_of d now) (wait_ends k k' s o alike u.filter_wait h.2)) h (filter_fires u h)
 
   pub fire_setup : Keeps k k' o (λ x u. fire_setup_of (wait_end u.setup_wait x) now u)
   unfolding fire_setup_of
   fire_setup u h =
-      firing_both u (ap (λ (d : Deadline). due_of d now) (wait_ends k k' s o alike u.setup_wait h.3)) h
-      (alone (fine (set_setup_wait NoWait (drive_scl true u))) (h.0, h.1, h.2, tt))
+      firing_both u (ap (λ (d : Result (Option Time) Refusal). due_of d now) (wait_ends k k' s o alike u.setup_wait h.3)) h
+      (alone (fine (set_setup_wait None (drive_scl true u))) (h.0, h.1, h.2, tt))
 
   stretch : KeepsOver k k' o (stretch_of now)
   unfolding stretch_of
@@ -308,14 +273,14 @@ module _ (k k' : Clocks) (s : Time) (o : ℕ) (alike : Alike k k' s o) (now : Ti
   pub fire_monitor : KeepsOver k k' o (fire_monitor_of now)
   unfolding fire_monitor_of
   fire_monitor u h =
-      firing_both u (ap (λ (d : Deadline). due_of d now) (half_ends k k' s o alike u.monitor_wait h.1)) h
-      (stretch (set_monitor_wait NoHalf u) (h.0, tt, h.2, h.3))
+      firing_both u (ap (λ (d : Result (Option Time) Refusal). due_of d now) (half_ends k k' s o alike u.monitor_wait h.1)) h
+      (stretch (set_monitor_wait None u) (h.0, tt, h.2, h.3))
 
   pub fire_clock : KeepsOver k k' o (fire_clock_of now)
   unfolding fire_clock_of
   fire_clock u h =
-      firing_both u (ap (λ (d : Deadline). due_of d now) (half_ends k k' s o alike u.clock_wait h.0)) h
-      (clock_step (set_clock_wait NoHalf u) (tt, h.1, h.2, h.3))
+      firing_both u (ap (λ (d : Result (Option Time) Refusal). due_of d now) (half_ends k k' s o alike u.clock_wait h.0)) h
+      (clock_step (set_clock_wait None u) (tt, h.1, h.2, h.3))
 
   -- ## Registers
 
@@ -344,12 +309,12 @@ module _ (k k' : Clocks) (s : Time) (o : ℕ) (alike : Alike k k' s o) (now : Ti
   unfolding stop_receive_of stop_shifter_of
   control_taken_lem u h =
       if_both (enabled u) (then_both (then_both (schedule_filter u h) (λ v g. alone (fine (stop_receive_of v)) g)) kick)
-      (alone (fine (set_filter_wait NoWait (stop_shifter_of u))) (tt, tt, tt, tt))
+      (alone (fine (set_filter_wait None (stop_shifter_of u))) (tt, tt, tt, tt))
 
   out_of_reset : (value : ℕ) → KeepsOver k k' o (out_of_reset_of value now)
   unfolding out_of_reset_of
   out_of_reset value u h =
-      if_both (takes_command value (pull_sda_of value u)) (kick (set_command (Commanded (has value BBSY)) (pull_sda_of value u)) pulled)
+      if_both (takes_command value (pull_sda_of value u)) (kick (set_command (Some (has value BBSY)) (pull_sda_of value u)) pulled)
       (alone (fine (pull_sda_of value u)) pulled)
     where
       pulled : Ahead k k' o (pull_sda_of value u)

@@ -1,5 +1,5 @@
 -- Laws: a pass over a moment makes of the view of a unit that is on what the moment and the levels say, whatever the unit's own lines are. Assumes nothing.
-use Rattle.std.specs.Prelude.{ℕ, Bool, ◌&&◌, cond, List, [], ◌∷◌, ◌≡◌}
+use Rattle.std.specs.Prelude.{ℕ, Bool, ◌&&◌, cond, List, [], ◌∷◌, ◌≡◌, Err, None, Ok, Option, Result, Some, false, true}
 use Rattle.std.proofs.Math.Bool.{true, false, beq, and-false, true≢false}
 use Rattle.std.proofs.lemmas.Bool.{false≢true}
 use Rattle.std.proofs.Math.Path.{refl, subst}
@@ -8,13 +8,12 @@ use Rattle.bus.specs.Bits.{has}
 use Rattle.clocks.specs.Clocks.{has_zero}
 use Rattle.clocks.specs.declared.Clocks.{Clocks}
 use Rattle.domain.specs.declared.Domain.{Domain}
-use Rattle.clocks.specs.declared.wait.Deadline.{Deadline}
 use Rattle.hosts.specs.Calls.{is_now, outcome_of}
 use Rattle.hosts.specs.Calls as call
 use Rattle.hosts.specs.Invariant.{Leaves}
 use Rattle.hosts.proofs.Kept.{Ungated, waits_off}
 use Rattle.hosts.specs.Left.{byte_refused, guarded_left, left, truth_refused}
-use Rattle.iic.specs.Answers.{guarded}
+use Rattle.iic.specs.Answers.{Stepped, guarded}
 use Rattle.registers.specs.Bits.{ICE}
 use Rattle.iic.specs.Calls.{advance_of, deadline_of, earliest_of, guard_by, input_pins_of, peek_of, read_of, set_gate_of, take_pins_of, turn_gate_of, visit_of, write_of}
 use Rattle.iic.specs.Filter.{observes}
@@ -29,16 +28,10 @@ use Rattle.iic.specs.declared.Hold.{Hold}
 use Rattle.iic.specs.declared.Iic.{Iic}
 use Rattle.registers.specs.declared.Register.{Register}
 use Rattle.registers.specs.declared.Register.TheVariants.{ICCR1}
-use Rattle.iic.specs.declared.Stepped.{Stepped}
 use Rattle.time.specs.Truths.{and_left, by_cases}
 use Rattle.time.specs.declared.Time.{Time}
 use Rattle.waits.specs.Ends.{due_of, half_end, sooner, wait_end}
 use Rattle.rates.specs.Rates.{rates_hold}
-use Rattle.waits.specs.declared.Due.{Due}
-use Rattle.waits.specs.declared.Due.TheVariants as due
-use Rattle.waits.specs.declared.MaybeHalf.{MaybeHalf}
-use Rattle.waits.specs.declared.MaybeHalf.TheVariants.{NoHalf, Half}
-use Rattle.waits.specs.declared.MaybeWait.{MaybeWait}
 use Rattle.rates.specs.declared.Rates.{Rates}
 use Rattle.waits.specs.Ahead.{Ahead, NotRefused}
 use Rattle.waits.specs.AheadLaws.{never_ahead}
@@ -50,56 +43,59 @@ use Rattle.wires.specs.Statement.{InWord}
 use Rattle.wires.specs.Units.{Answered, Line, LinesAnswered, Next, NotPast, On, StaysOn, Turn, after, call_at, gate, named, passed, played, read, report, untold, visited, write}
 use Rattle.wires.specs.Views.{View, clocked, fired, scheduled, told}
 use Rattle.wires.specs.Visits.{told_sound, visit_sound}
+use Rattle.clocks.specs.declared.wait.ClockWait.{ClockWait}
+use Rattle.refusals.specs.declared.Refusal.{Refusal}
+use Rattle.waits.specs.declared.HalfWait.{HalfWait}
 
 -- ## Going to a moment
 
-clock_ahead : (now : Time) (d : Domain) (c : MaybeHalf) → LaterClock now d c → Ahead now (half_end c d)
+clock_ahead : (now : Time) (d : Domain) (c : Option HalfWait) → LaterClock now d c → Ahead now (half_end c d)
 unfolding half_end
-clock_ahead now d NoHalf h = never_ahead now
-clock_ahead now d (Half w) h = h.ahead
+clock_ahead now d None h = never_ahead now
+clock_ahead now d (Some w) h = h.ahead
 
-monitor_ahead : (now : Time) (k : Clocks) (m c : MaybeHalf) (x : Condition) (h : Hold) → Monitored (later now k) m c x h → Ahead now (half_end m k.system)
+monitor_ahead : (now : Time) (k : Clocks) (m c : Option HalfWait) (x : Condition) (h : Hold) → Monitored (later now k) m c x h → Ahead now (half_end m k.system)
 unfolding half_end
-monitor_ahead now k NoHalf c x h g = never_ahead now
-monitor_ahead now k (Half w) NoHalf x h g = absurd g
-monitor_ahead now k (Half w) (Half c) x h g = g.0.ahead
+monitor_ahead now k None c x h g = never_ahead now
+monitor_ahead now k (Some w) None x h g = absurd g
+monitor_ahead now k (Some w) (Some c) x h g = g.0.ahead
 
 -- the same at another moment
-clock_at : (was now : Time) (d : Domain) (c : MaybeHalf) → LaterClock was d c → Ahead now (half_end c d) → LaterClock now d c
+clock_at : (was now : Time) (d : Domain) (c : Option HalfWait) → LaterClock was d c → Ahead now (half_end c d) → LaterClock now d c
 unfolding half_end
-clock_at was now d NoHalf h a = tt
-clock_at was now d (Half w) h a = record { ahead = a; from = h.from; left = h.left }
+clock_at was now d None h a = tt
+clock_at was now d (Some w) h a = record { ahead = a; from = h.from; left = h.left }
 
-monitor_at : (was now : Time) (k : Clocks) (m c : MaybeHalf) (x : Condition) (h : Hold) → Monitored (later was k) m c x h → Ahead now (half_end m k.system)
+monitor_at : (was now : Time) (k : Clocks) (m c : Option HalfWait) (x : Condition) (h : Hold) → Monitored (later was k) m c x h → Ahead now (half_end m k.system)
     → Monitored (later now k) m c x h
 unfolding half_end
-monitor_at was now k NoHalf c x h g a = tt
-monitor_at was now k (Half w) NoHalf x h g a = g
-monitor_at was now k (Half w) (Half c) x h g a = (record { ahead = a; from = g.0.from; left = g.0.left }, g.1)
+monitor_at was now k None c x h g a = tt
+monitor_at was now k (Some w) None x h g a = g
+monitor_at was now k (Some w) (Some c) x h g a = (record { ahead = a; from = g.0.from; left = g.0.left }, g.1)
 
-due_is : (x : Due) → is_now x ≡ true → x ≡ due.Now
-due_is due.Now e = refl
-due_is due.NotNow e = absurd (false≢true e)
-due_is (due.Refused n) e = absurd (false≢true e)
+due_is : (x : Result Bool Refusal) → is_now x ≡ true → x ≡ Ok true
+due_is (Ok true) e = refl
+due_is (Ok false) e = absurd (false≢true e)
+due_is (Err n) e = absurd (false≢true e)
 
 -- the four ends that it is taken from
-abbrev filter_end : Clocks → Iic → Deadline
+abbrev filter_end : Clocks → Iic → Result (Option Time) Refusal
 filter_end k s = wait_end s.filter_wait k
 
-abbrev clock_end : Clocks → Iic → Deadline
+abbrev clock_end : Clocks → Iic → Result (Option Time) Refusal
 clock_end k s = half_end s.clock_wait k.system
 
-abbrev monitor_end : Clocks → Iic → Deadline
+abbrev monitor_end : Clocks → Iic → Result (Option Time) Refusal
 monitor_end k s = half_end s.monitor_wait k.system
 
-abbrev setup_end : Clocks → Iic → Deadline
+abbrev setup_end : Clocks → Iic → Result (Option Time) Refusal
 setup_end k s = wait_end s.setup_wait k
 
 -- the earliest of the last three, and of all
-abbrev rest_end : Clocks → Iic → Deadline
+abbrev rest_end : Clocks → Iic → Result (Option Time) Refusal
 rest_end k s = sooner (clock_end k s) (sooner (monitor_end k s) (setup_end k s))
 
-abbrev first_end : Clocks → Iic → Deadline
+abbrev first_end : Clocks → Iic → Result (Option Time) Refusal
 first_end k s = sooner (filter_end k s) (rest_end k s)
 
 -- the deadline of a unit that is on
@@ -117,11 +113,11 @@ module _ (k : Clocks) (r : Rates) (was : Time) (v : View) (s : Iic) (sound : Sou
 
   first_unrefused : NotRefused (first_end k s)
   unfolding outcome_of
-  first_unrefused n e = true≢false (subst (λ (d : Deadline). is_refusal (of_deadline d) ≡ false) (parts ∙ e) answers)
+  first_unrefused n e = true≢false (subst (λ (d : Result (Option Time) Refusal). is_refusal (of_deadline d) ≡ false) (parts ∙ e) answers)
 
   first_ahead : Ahead was (first_end k s)
   first_ahead =
-      sooner_ahead was (filter_end k s) (rest_end k s) (subst (λ (w : MaybeWait). Ahead was (wait_end w k)) (sym sound.keeps.filter) sound.ahead)
+      sooner_ahead was (filter_end k s) (rest_end k s) (subst (λ (w : Option ClockWait). Ahead was (wait_end w k)) (sym sound.keeps.filter) sound.ahead)
       (sooner_ahead was (clock_end k s) (sooner (monitor_end k s) (setup_end k s)) (clock_ahead was k.system s.clock_wait sound.keeps.clock)
       (sooner_ahead was (monitor_end k s) (setup_end k s) (monitor_ahead was k s.monitor_wait s.clock_wait s.condition s.hold sound.keeps.monitor) sound.keeps.setup))
 
@@ -135,7 +131,7 @@ module _ (k : Clocks) (r : Rates) (was : Time) (v : View) (s : Iic) (sound : Sou
 
     four : Ahead m (filter_end k s) × Ahead m (clock_end k s) × Ahead m (monitor_end k s) × Ahead m (setup_end k s)
     four =
-        let last : Deadline = sooner (monitor_end k s) (setup_end k s) in
+        let last : Result (Option Time) Refusal = sooner (monitor_end k s) (setup_end k s) in
         let two = ahead_both m (clock_end k s) last rest.0 rest.1 in
         let one = ahead_both m (monitor_end k s) (setup_end k s) (sooner_unrefused (clock_end k s) last rest.0).1 two.1 in
         ((ahead_both m (filter_end k s) (rest_end k s) first_unrefused all).0, two.0, one.0, one.1)
@@ -156,14 +152,14 @@ module _ (k : Clocks) (r : Rates) (was : Time) (v : View) (s : Iic) (sound : Sou
             rates = h.rates;
           };
           awaited = sound.awaited;
-          ahead = subst (λ (w : MaybeWait). Ahead m (wait_end w k)) h.filter four.0;
+          ahead = subst (λ (w : Option ClockWait). Ahead m (wait_end w k)) h.filter four.0;
         }
 
     -- a unit whose filter is due is visited
     filter_named : is_now (due_of (wait_end v.filter k) m) ≡ true → named k m s ≡ true
     filter_named e =
-        let d : due_of (filter_end k s) m ≡ due.Now = subst (λ (w : MaybeWait). due_of (wait_end w k) m ≡ due.Now) (sym sound.keeps.filter) (due_is (due_of (wait_end v.filter k) m) e) in
-        ap is_now (subst (λ (x : Deadline). due_of x m ≡ due.Now) (sym parts) (sooner_due m (filter_end k s) (rest_end k s) d rest.0 rest.1))
+        let d : due_of (filter_end k s) m ≡ Ok true = subst (λ (w : Option ClockWait). due_of (wait_end w k) m ≡ Ok true) (sym sound.keeps.filter) (due_is (due_of (wait_end v.filter k) m) e) in
+        ap is_now (subst (λ (x : Result (Option Time) Refusal). due_of x m ≡ Ok true) (sym parts) (sooner_due m (filter_end k s) (rest_end k s) d rest.0 rest.1))
 
     -- visited or not, the filter fires where it is due
     pub visited_sound : Spaced r → InWord k → (named k m s ≡ true → Answered k (call.advance m) s) → Sound m k r (fired m k v) (visited k m s)
@@ -228,7 +224,7 @@ module _ (now : Time) (k : Clocks) (r : Rates) (holds : rates_hold r ≡ true) (
   unfolding outcome_of read_of write_of set_gate_of
   line_keeps (read a) fine on =
       guarded_left (Keeps (later now k) r v) (guard_by (has_zero k) s) s (read_at (register_at a) now k.system s) (read_keeps L v (register_at a) s sound.keeps)
-      (sym (byte_refused (guarded (guard_by (has_zero k) s) s (read_at (register_at a) now k.system s)).ended (peek_of s a)) ∙ fine)
+      (sym (byte_refused (guarded (guard_by (has_zero k) s) s (read_at (register_at a) now k.system s)).answer (peek_of s a)) ∙ fine)
   line_keeps (write a value) fine on =
       guarded_left (Keeps (later now k) r v) (guard_by (has_zero k) s) s (write_at (register_at a) value now k.system s)
       (write_keeps L v (register_at a) value s sound.awaited (allowed a value fine on) sound.keeps) fine
@@ -253,7 +249,7 @@ unfolding outcome_of input_pins_of
 report_sound k r spaced v p s h fine =
     let o : Stepped = take_pins_of p.wires p.moment k.system s in
     guarded_left (Sound p.moment k r (told p.wires p.moment k v)) (guard_by (has_zero k) s) s o (told_sound p.moment k r spaced p.wires v s h)
-    (sym (truth_refused (guarded (guard_by (has_zero k) s) s o).ended (observes s p.wires)) ∙ fine)
+    (sym (truth_refused (guarded (guard_by (has_zero k) s) s o).answer (observes s p.wires)) ∙ fine)
 
 pub pass_sound : (k : Clocks) → InWord k → (r : Rates) → Spaced r → (was : Time) (v : View) (p : Turn) (s : Iic) → Sound was k r v s → Next k was s p
     → Sound p.moment k r (told p.wires p.moment k (fired p.moment k v)) (passed k p s)

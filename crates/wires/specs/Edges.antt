@@ -1,5 +1,5 @@
 -- Laws: what filtered levels bring to a unit that is on, `falling` and `filtered_edges`, keeps its rules. Assumes nothing.
-use Rattle.std.specs.Prelude.{ℕ, ◌+◌, ◌*◌, ◌≤◌, Bool, true, ◌&&◌, cond, ◌≡◌}
+use Rattle.std.specs.Prelude.{ℕ, ◌+◌, ◌*◌, ◌≤◌, Bool, true, ◌&&◌, cond, ◌≡◌, None, Ok, Option, Some}
 use Rattle.std.proofs.Math.Bool.{false, not}
 use Rattle.std.proofs.Common.{true≢false, sym, ◌∙◌, subst, arith}
 use Rattle.std.proofs.Math.Path.{refl}
@@ -8,13 +8,11 @@ use Rattle.counts.specs.Counts.{fits}
 use Rattle.clocks.specs.declared.Clocks.{Clocks}
 use Rattle.domain.specs.declared.Domain.{Domain}
 use Rattle.frames.specs.declared.Frame.{Frame}
-use Rattle.frames.specs.declared.Framing.{Framing}
-use Rattle.frames.specs.declared.Framing.TheVariants.{InFrame, NoFrame}
 use Rattle.frames.specs.declared.Phase.{Phase}
 use Rattle.frames.specs.declared.Phase.TheVariants.{Ack, Data, Done}
 use Rattle.hosts.specs.Invariant.{Leaves}
-use Rattle.hosts.specs.Left.{half_leaves, then_leaves}
-use Rattle.iic.specs.Answers.{and_then}
+use Rattle.hosts.specs.Left.{then_leaves, wait_leaves}
+use Rattle.iic.specs.Answers.{Stepped, and_then}
 use Rattle.iic.specs.Conditions.{bus_edge_of, condition_high, high_at, raised_of}
 use Rattle.iic.specs.Edges.{condition_step_of, edges_from, fall_ack_of, fall_at, fall_in, fall_of, fall_on, falling_of, filtered_edges_of, insert_wait_of, longer, scl_edge_of, stretch_ends_of}
 use Rattle.iic.specs.Falls.{end_frame_of, fall_taken_of, follow_of, inserts_wait}
@@ -22,21 +20,19 @@ use Rattle.iic.specs.Kick.{kick_of}
 use Rattle.iic.specs.Setters.{set_clock_wait, set_synchronized_hold}
 use Rattle.iic.specs.Shift.{load_transmit_of}
 use Rattle.iic.specs.State.{commanded, conditioned, is_condition}
-use Rattle.iic.specs.Waiting.{clock_from, turn_clock_of, turn_half_in}
+use Rattle.iic.specs.Waiting.{at_wait, clock_from, turn_clock_of}
 use Rattle.iic.specs.declared.Condition.{Condition}
 use Rattle.iic.specs.declared.Condition.TheVariants.{NoCondition, StartHigh, StartHold, StartRelease, StopDetect, StopHigh, StopLow, StopRelease}
 use Rattle.iic.specs.declared.Hold.{Hold}
 use Rattle.iic.specs.declared.Iic.{Iic}
-use Rattle.iic.specs.declared.Stepped.{Stepped}
 use Rattle.time.specs.declared.Time.{Time}
+use Rattle.refusals.proofs.Laws.{same_ok}
+use Rattle.waits.specs.Ends.{turn_half}
 use Rattle.waits.specs.Half.{half_after, half_resume, half_wait, made_half}
 use Rattle.rates.specs.Rates.{period_of, rates_hold}
 use Rattle.waits.specs.declared.HalfWait.{HalfWait}
-use Rattle.waits.specs.declared.MaybeHalf.{MaybeHalf}
-use Rattle.waits.specs.declared.MaybeHalf.TheVariants.{NoHalf, Half}
-use Rattle.waits.specs.declared.NewHalf.TheVariants as half
 use Rattle.rates.specs.declared.Rates.{Rates}
-use Rattle.waits.specs.AheadLaws.{longer_ahead, longer_is, same_half}
+use Rattle.waits.specs.AheadLaws.{longer_ahead, longer_is}
 use Rattle.time.specs.Truths.{by_cases, either, if_false}
 use Rattle.wires.specs.Held.{any_condition, dropping, halve, in_condition, no_monitor, unmonitored}
 use Rattle.wires.specs.Kicks.{kick, start_clock}
@@ -73,9 +69,9 @@ module _ (now : Time) (k : Clocks) (r : Rates) (holds : rates_hold r ≡ true) (
   -- ## `falling`
 
   -- the monitor's wait is still well before it
-  beside_longer : (m : MaybeHalf) (w : HalfWait) (n : ℕ) (x : Condition) (h : Hold) → Monitored (later now k) m (Half w) x h → Monitored (later now k) m (Half (half_wait w.paused (w.count + n))) x h
-  beside_longer NoHalf w n x h g = tt
-  beside_longer (Half m) w n x h g = (
+  beside_longer : (m : Option HalfWait) (w : HalfWait) (n : ℕ) (x : Condition) (h : Hold) → Monitored (later now k) m (Some w) x h → Monitored (later now k) m (Some (half_wait w.paused (w.count + n))) x h
+  beside_longer None w n x h g = tt
+  beside_longer (Some m) w n x h g = (
     g.0,
     record {
       runs = g.1.runs;
@@ -89,13 +85,13 @@ module _ (now : Time) (k : Clocks) (r : Rates) (holds : rates_hold r ≡ true) (
       further : {a : ℕ} → a ≤ w.count → a ≤ w.count + n
       further p = omega arith
 
-  longer_keeps : (c : MaybeHalf) (s : Iic) → s.clock_wait ≡ c → G s → To (longer c s)
-  longer_keeps NoHalf s e h = h
-  longer_keeps (Half w) s e h =
+  longer_keeps : (c : Option HalfWait) (s : Iic) → s.clock_wait ≡ c → G s → To (longer c s)
+  longer_keeps None s e h = h
+  longer_keeps (Some w) s e h =
       let n : ℕ = 4 * period_of s.rates s.registers.control in
-      half_leaves G set_clock_wait (made_half w.paused (fits (w.count + n))) s (λ u f.
-      subst (λ (x : HalfWait). G (set_clock_wait (Half x) s)) (sym (longer_is w.paused (w.count + n) u f))
-      (halve h (Half (half_wait w.paused (w.count + n))) s.monitor_wait s.condition s.hold
+      wait_leaves G set_clock_wait (made_half w.paused (fits (w.count + n))) s (λ u f.
+      subst (λ (x : HalfWait). G (set_clock_wait (Some x) s)) (sym (longer_is w.paused (w.count + n) u f))
+      (halve h (Some (half_wait w.paused (w.count + n))) s.monitor_wait s.condition s.hold
       (longer_later now k.system n w (rw e at h.clock))
       (beside_longer s.monitor_wait w n s.condition s.hold (rw e at h.monitor))))
 
@@ -111,9 +107,9 @@ module _ (now : Time) (k : Clocks) (r : Rates) (holds : rates_hold r ≡ true) (
   fall_at_lem Ack f s h = fall_ack f s h
   fall_at_lem Done f s h = h
 
-  fall_in_lem : (fr : Framing) (s : Iic) → G s → To (fall_in fr now s)
-  fall_in_lem NoFrame s h = fall_idle (dropping L v) s h
-  fall_in_lem (InFrame f) s h = fall_at_lem f.phase f s h
+  fall_in_lem : (fr : Option Frame) (s : Iic) → G s → To (fall_in fr now s)
+  fall_in_lem None s h = fall_idle (dropping L v) s h
+  fall_in_lem (Some f) s h = fall_at_lem f.phase f s h
 
   fall_on_lem : (s : Iic) → G s → To (fall_on now s)
   unfolding fall_of
@@ -129,29 +125,29 @@ module _ (now : Time) (k : Clocks) (r : Rates) (holds : rates_hold r ≡ true) (
   -- ## `filtered_edges`
 
   -- the monitor doesn't wait beside a paused clock
-  in_pause : (m : MaybeHalf) (w : HalfWait) (x : Condition) (h : Hold) → w.paused ≡ true → Monitored (later now k) m (Half w) x h → m ≡ NoHalf
-  in_pause NoHalf w x h p g = refl
-  in_pause (Half m) w x h p g = absurd (true≢false (sym p ∙ g.1.clock_runs))
+  in_pause : (m : Option HalfWait) (w : HalfWait) (x : Condition) (h : Hold) → w.paused ≡ true → Monitored (later now k) m (Some w) x h → m ≡ None
+  in_pause None w x h p g = refl
+  in_pause (Some m) w x h p g = absurd (true≢false (sym p ∙ g.1.clock_runs))
 
   -- a clock's wait goes on: what is left of it starts now
-  resume_keeps : (c : MaybeHalf) (s : Iic) → s.clock_wait ≡ c → G s → To (turn_half_in clock_from true now k.system c s)
+  resume_keeps : (c : Option HalfWait) (s : Iic) → s.clock_wait ≡ c → G s → To (at_wait c (λ u. clock_from (turn_half true now k.system u)) s)
   unfolding half_resume
-  resume_keeps NoHalf s e h = h
-  resume_keeps (Half w) s e h = half_leaves G set_clock_wait (half_resume w now k.system) s (go w.paused refl)
+  resume_keeps None s e h = h
+  resume_keeps (Some w) s e h = wait_leaves G set_clock_wait (half_resume w now k.system) s (go w.paused refl)
     where
       clock : LaterHalf now k.system w
       clock = rw e at h.clock
 
-      monitor : Monitored (later now k) s.monitor_wait (Half w) s.condition s.hold
+      monitor : Monitored (later now k) s.monitor_wait (Some w) s.condition s.hold
       monitor = rw e at h.monitor
 
-      go : (p : Bool) → w.paused ≡ p → (u : HalfWait) → cond w.paused (half_after now w.count k.system) (half.Made w) ≡ half.Made u → G (set_clock_wait (Half u) s)
+      go : (p : Bool) → w.paused ≡ p → (u : HalfWait) → cond w.paused (half_after now w.count k.system) (Ok w) ≡ Ok u → G (set_clock_wait (Some u) s)
       go true p u f =
-          halve h (Half u) s.monitor_wait s.condition s.hold (started_later now k.system w.count u (clock.left p) (rw p at f))
-          (unmonitored (later now k) s.monitor_wait (Half u) s.condition s.hold (in_pause s.monitor_wait w s.condition s.hold p monitor))
+          halve h (Some u) s.monitor_wait s.condition s.hold (started_later now k.system w.count u (clock.left p) (rw p at f))
+          (unmonitored (later now k) s.monitor_wait (Some u) s.condition s.hold (in_pause s.monitor_wait w s.condition s.hold p monitor))
       go false p u f =
-          subst (λ (x : HalfWait). G (set_clock_wait (Half x) s)) (same_half (sym (if_false w.paused (half_after now w.count k.system) (half.Made w) p) ∙ f))
-          (halve h (Half w) s.monitor_wait s.condition s.hold clock monitor)
+          subst (λ (x : HalfWait). G (set_clock_wait (Some x) s)) (same_ok (sym (if_false w.paused (half_after now w.count k.system) (Ok w) p) ∙ f))
+          (halve h (Some w) s.monitor_wait s.condition s.hold clock monitor)
 
   stretch_ends : (s : Iic) → G s → To (stretch_ends_of now k.system s)
   unfolding stretch_ends_of turn_clock_of
@@ -172,7 +168,7 @@ module _ (now : Time) (k : Clocks) (r : Rates) (holds : rates_hold r ≡ true) (
   unfolding condition_step_of
   condition_step s h =
       by_cases To (condition_high s)
-      (λ e. let none : s.monitor_wait ≡ NoHalf = in_condition L s.monitor_wait s.clock_wait s.condition s.hold (high_condition s.condition s.lines.filtered e) h.monitor in
+      (λ e. let none : s.monitor_wait ≡ None = in_condition L s.monitor_wait s.clock_wait s.condition s.hold (high_condition s.condition s.lines.filtered e) h.monitor in
       start_clock L v (raised_of s) (raised no_monitor s (λ x. none)) (raised (dropping L v) s (any_condition L none h)))
       (λ e. h)
 

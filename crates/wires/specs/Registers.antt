@@ -1,14 +1,12 @@
 -- Laws: reads and writes keep the rules, whatever is written, as long as they allow the unit to be switched off where a write of ICCR1 does that. Assumes nothing.
-use Rattle.std.specs.Prelude.{ℕ, ◌+◌, true, false, ◌&&◌, ◌≡◌, refl, eqb}
+use Rattle.std.specs.Prelude.{ℕ, ◌+◌, true, false, ◌&&◌, ◌≡◌, refl, eqb, None, Option, Some}
 use Rattle.std.proofs.Common.{sym, subst}
 use Rattle.std.specs.Int.Bits.{bit_and}
 use Rattle.bus.specs.Bits.{has}
 use Rattle.domain.specs.declared.Domain.{Domain}
-use Rattle.frames.specs.declared.Framing.{Framing}
-use Rattle.frames.specs.declared.Framing.TheVariants.{InFrame, NoFrame}
 use Rattle.hosts.specs.Invariant.{Leaves}
 use Rattle.hosts.specs.Left.{then_leaves}
-use Rattle.iic.specs.Answers.{and_then, fine}
+use Rattle.iic.specs.Answers.{Stepped, and_then, fine}
 use Rattle.registers.specs.Bits.{BBSY, ICE, IICRST, MST, TRS}
 use Rattle.iic.specs.Reading.{continued_of, read_at, read_data_of, resumed_of, taken_of}
 use Rattle.iic.specs.Setters.{set_command}
@@ -16,17 +14,13 @@ use Rattle.iic.specs.Shift.{can_load, load_in, load_transmit_of}
 use Rattle.iic.specs.State.{enabled, held, is_hold, is_transmit_hold, stop_shifter_of, transmits}
 use Rattle.iic.specs.Waiting.{schedule_filter_of}
 use Rattle.iic.specs.Writing.{control_set, enter_reset_of, give_data_of, out_of_reset_of, pull_sda_of, redirected, send_on_of, stop_receive_of, take_control_of, takes_command, write_address_of, write_at, write_command_of, write_control_of, write_data_of, write_enable_of, write_status_of}
-use Rattle.iic.specs.declared.Command.TheVariants.{Commanded}
 use Rattle.iic.specs.declared.Condition.TheVariants.{NoCondition}
 use Rattle.iic.specs.declared.Hold.{Hold}
 use Rattle.iic.specs.declared.Hold.TheVariants.{NoHold, Receive, Transmit}
 use Rattle.iic.specs.declared.Iic.{Iic}
 use Rattle.registers.specs.declared.Register.{Register}
 use Rattle.registers.specs.declared.Register.TheVariants.{ICCR1, ICCR2, ICDRR, ICDRT, ICIER, ICMR, ICSR, SAR}
-use Rattle.iic.specs.declared.Stepped.{Stepped}
 use Rattle.time.specs.declared.Time.{Time}
-use Rattle.waits.specs.declared.MaybeHalf.TheVariants.{NoHalf}
-use Rattle.waits.specs.declared.MaybeWait.TheVariants.{NoWait}
 use Rattle.rates.specs.declared.Rates.{Rates}
 use Rattle.time.specs.Truths.{by_cases, either}
 use Rattle.wires.specs.Held.{dropping, halve, prepare, switch}
@@ -34,6 +28,7 @@ use Rattle.wires.specs.Kicks.{kick, release_hold, schedule_rests, then_kick}
 use Rattle.wires.specs.Rules.{Keeps, Lawful, Rules}
 use Rattle.iic.specs.TimingLaws.{continued, load, pull_sda, take_control, write_mode}
 use Rattle.wires.specs.Views.{View, unawaited}
+use Rattle.frames.specs.declared.Frame.{Frame}
 
 -- ICCR1 is as written
 pub control_is : (value : ℕ) (s : Iic) → (take_control_of value s).registers.control ≡ value
@@ -49,9 +44,9 @@ load_hold : (s : Iic) → (load_transmit_of s).hold ≡ s.hold
 unfolding load_transmit_of
 load_hold s = go s.frame
   where
-    go : (fr : Framing) → (load_in fr s).hold ≡ s.hold
-    go NoFrame = refl
-    go (InFrame f) = either (λ (x : Iic). x.hold ≡ s.hold) (can_load s f) refl refl
+    go : (fr : Option Frame) → (load_in fr s).hold ≡ s.hold
+    go None = refl
+    go (Some f) = either (λ (x : Iic). x.hold ≡ s.hold) (can_load s f) refl refl
 
 module _ {now : Time} {system : Domain} {R : Rules} {r : Rates} (L : Lawful now system R r) (v : View) where
   abbrev G : Iic → Type 0
@@ -87,12 +82,12 @@ module _ {now : Time} {system : Domain} {R : Rules} {r : Rates} (L : Lawful now 
 
   stopped : (s : Iic) → G s → G (stop_shifter_of s)
   unfolding stop_shifter_of
-  stopped s h = prepare (halve h NoHalf NoHalf NoCondition NoHold L.no_clock tt) NoWait L.no_setup
+  stopped s h = prepare (halve h None None NoCondition NoHold L.no_clock tt) None L.no_setup
 
   -- a write of ICCR1 leaves the unit on, where that is asked, or has no wait of the filter to take away
   pub record Allowed (value : ℕ) (s : Iic) : Type 0 where
     pub stays : R.On (s.flags.gate && has value ICE)
-    pub drops : has value ICE ≡ false → NoWait ≡ v.filter
+    pub drops : has value ICE ≡ false → None ≡ v.filter
 
   write_control : (value : ℕ) (s : Iic) → unawaited v ≡ false → Allowed value s → G s → To (write_control_of value now system s)
   unfolding write_control_of stop_receive_of stop_shifter_of
@@ -111,7 +106,7 @@ module _ {now : Time} {system : Domain} {R : Rules} {r : Rates} (L : Lawful now 
       let g : G (pull_sda_of value s) = pull_sda (dropping L v) value s h in
       either To (has value IICRST) (stopped s h)
       (either To s.flags.reset h
-      (either To (takes_command value (pull_sda_of value s)) (kick L v (set_command (Commanded (has value BBSY)) (pull_sda_of value s)) g) g))
+      (either To (takes_command value (pull_sda_of value s)) (kick L v (set_command (Some (has value BBSY)) (pull_sda_of value s)) g) g))
 
   send_on : (s : Iic) → G s → To (send_on_of now system s)
   unfolding send_on_of

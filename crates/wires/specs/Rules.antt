@@ -1,30 +1,23 @@
 -- Definitions: what a unit keeps through the steps of a moment, the invariant of the proof: in the first pass, where it may be switched on and off, and later, when
 -- it is on. No paper has it.
-use Rattle.std.specs.Prelude.{ℕ, ◌+◌, ◌*◌, ◌≤◌, ◌<◌, Bool, true, false, ◌≡◌}
+use Rattle.std.specs.Prelude.{ℕ, ◌+◌, ◌*◌, ◌≤◌, ◌<◌, Bool, true, false, ◌≡◌, None, Ok, Option, Some}
 use Rattle.domain.specs.Domain.{domain_half_ticks, domain_ticks}
 use Rattle.clocks.specs.System.{system_after}
 use Rattle.clocks.specs.Tap.{system_tap}
 use Rattle.clocks.specs.declared.Clocks.{Clocks}
 use Rattle.domain.specs.declared.Domain.{Domain}
 use Rattle.clocks.specs.declared.wait.ClockWait.{ClockWait}
-use Rattle.clocks.specs.declared.wait.NewWait.TheVariants as wait
 use Rattle.clocks.specs.declared.wait.WaitState.{WaitState}
 use Rattle.clocks.specs.declared.wait.WaitState.TheVariants.{Running, Paused, Ready}
 use Rattle.iic.specs.State.{is_condition, is_hold}
 use Rattle.iic.specs.declared.Condition.{Condition}
 use Rattle.iic.specs.declared.Hold.{Hold}
 use Rattle.iic.specs.declared.Iic.{Iic}
-use Rattle.time.specs.declared.Count.TheVariants.{Of}
 use Rattle.time.specs.declared.Time.{Time}
 use Rattle.waits.specs.Ends.{wait_end}
 use Rattle.waits.specs.Half.{half_after, half_deadline}
 use Rattle.rates.specs.Rates.{default_rates, monitor_halves, period_of, rates_hold}
 use Rattle.waits.specs.declared.HalfWait.{HalfWait}
-use Rattle.waits.specs.declared.MaybeHalf.{MaybeHalf}
-use Rattle.waits.specs.declared.MaybeHalf.TheVariants.{NoHalf, Half}
-use Rattle.waits.specs.declared.MaybeWait.{MaybeWait}
-use Rattle.waits.specs.declared.MaybeWait.TheVariants.{NoWait, Waiting}
-use Rattle.waits.specs.declared.NewHalf.TheVariants as half
 use Rattle.rates.specs.declared.Rates.{Rates}
 use Rattle.waits.specs.Ahead.{Ahead}
 use Rattle.iic.specs.Timing.{Timing, timing_of}
@@ -35,13 +28,13 @@ use Rattle.wires.specs.Views.{View, unawaited}
 -- what is asked, at a moment, of being on, of the clock's wait, of the setup's, and of the monitor's with the clock's wait, the condition and the hold beside it
 pub record Rules : Type 1 where
   pub On : Bool → Type 0
-  pub Clock : MaybeHalf → Type 0
-  pub Setup : MaybeWait → Type 0
-  pub Monitor : HalfWait → MaybeHalf → Condition → Hold → Type 0
+  pub Clock : Option HalfWait → Type 0
+  pub Setup : Option ClockWait → Type 0
+  pub Monitor : HalfWait → Option HalfWait → Condition → Hold → Type 0
 
-abbrev pub Monitored : Rules → MaybeHalf → MaybeHalf → Condition → Hold → Type 0
-Monitored R NoHalf c x h = Unit {0}
-Monitored R (Half w) c x h = R.Monitor w c x h
+abbrev pub Monitored : Rules → Option HalfWait → Option HalfWait → Condition → Hold → Type 0
+Monitored R None c x h = Unit {0}
+Monitored R (Some w) c x h = R.Monitor w c x h
 
 -- of a unit with the view v and the rate set r
 pub record Held (R : Rules) (r : Rates) (v : View) (t : Timing) : Type 0 where
@@ -62,12 +55,12 @@ Keeps R r v s = Held R r v (timing_of s)
 -- no condition and no hold, so that the monitor doesn't wait where a step starts the clock's wait anew. Of the rate set they need that it isn't refused.
 pub record Lawful (now : Time) (system : Domain) (R : Rules) (r : Rates) : Type 0 where
   pub accepted : rates_hold r ≡ true
-  pub no_clock : R.Clock NoHalf
-  pub clock : (n : ℕ) (w : HalfWait) → 0 < n → half_after now n system ≡ half.Made w → R.Clock (Half w)
-  pub no_setup : R.Setup NoWait
-  pub setup : (n : ℕ) (w : ClockWait) → 0 < n → system_after now n system ≡ wait.Made w → R.Setup (Waiting w)
-  pub clocked : (w : HalfWait) (x : Condition) (h : Hold) → R.Monitor w NoHalf x h → ⊥
-  pub uncalled : (w : HalfWait) (c : MaybeHalf) (x : Condition) (h : Hold) → R.Monitor w c x h → (is_condition x ≡ false) × (is_hold h ≡ false)
+  pub no_clock : R.Clock None
+  pub clock : (n : ℕ) (w : HalfWait) → 0 < n → half_after now n system ≡ Ok w → R.Clock (Some w)
+  pub no_setup : R.Setup None
+  pub setup : (n : ℕ) (w : ClockWait) → 0 < n → system_after now n system ≡ Ok w → R.Setup (Some w)
+  pub clocked : (w : HalfWait) (x : Condition) (h : Hold) → R.Monitor w None x h → ⊥
+  pub uncalled : (w : HalfWait) (c : Option HalfWait) (x : Condition) (h : Hold) → R.Monitor w c x h → (is_condition x ≡ false) × (is_hold h ≡ false)
 
 -- ## A unit that is on: no wait's time is before the moment, since one that is would be the unit's deadline and the filter's wait would name no moment any more; a
 -- paused clock wait has something left, and the monitor's wait ends well before the clock's, with no condition and no hold
@@ -78,9 +71,9 @@ pub record LaterHalf (now : Time) (system : Domain) (w : HalfWait) : Type 0 wher
   pub from : w.paused ≡ false → 2 * system.clock.ordinal ≤ w.count
   pub left : w.paused ≡ true → 0 < w.count
 
-abbrev pub LaterClock : Time → Domain → MaybeHalf → Type 0
-LaterClock now system NoHalf = Unit {0}
-LaterClock now system (Half w) = LaterHalf now system w
+abbrev pub LaterClock : Time → Domain → Option HalfWait → Type 0
+LaterClock now system None = Unit {0}
+LaterClock now system (Some w) = LaterHalf now system w
 
 -- 3 apart, since at the monitor's time at most 2 more than its own half count are counted: then something of the clock's wait is left, where it is paused there
 pub record Beside (w c : HalfWait) (x : Condition) (h : Hold) : Type 0 where
@@ -90,9 +83,9 @@ pub record Beside (w c : HalfWait) (x : Condition) (h : Hold) : Type 0 where
   pub no_condition : is_condition x ≡ false
   pub no_hold : is_hold h ≡ false
 
-abbrev pub LaterMonitor : Time → Domain → HalfWait → MaybeHalf → Condition → Hold → Type 0
-LaterMonitor now system w NoHalf x h = ⊥
-LaterMonitor now system w (Half c) x h = LaterHalf now system w × Beside w c x h
+abbrev pub LaterMonitor : Time → Domain → HalfWait → Option HalfWait → Condition → Hold → Type 0
+LaterMonitor now system w None x h = ⊥
+LaterMonitor now system w (Some c) x h = LaterHalf now system w × Beside w c x h
 
 abbrev pub later : Time → Clocks → Rules
 later now k = record {
@@ -124,14 +117,14 @@ pub record Alike (now : Time) (k : Clocks) (a b : Iic) : Type 0 where
 
 abbrev pub FirstHalf : Time → Domain → Bool → ℕ → Type 0
 FirstHalf now system true n = 0 < n
-FirstHalf now system false n = (t : ℕ) × (domain_half_ticks system now ≡ Of t) × (t < n)
+FirstHalf now system false n = (t : ℕ) × (domain_half_ticks system now ≡ Ok t) × (t < n)
 
-abbrev pub FirstClock : Time → Domain → MaybeHalf → Type 0
-FirstClock now system NoHalf = Unit {0}
-FirstClock now system (Half w) = FirstHalf now system w.paused w.count
+abbrev pub FirstClock : Time → Domain → Option HalfWait → Type 0
+FirstClock now system None = Unit {0}
+FirstClock now system (Some w) = FirstHalf now system w.paused w.count
 
 abbrev pub FirstState : Time → Domain → WaitState → Type 0
-FirstState now system (Running n) = (t : ℕ) × (domain_ticks system now ≡ Of t) × (t < n)
+FirstState now system (Running n) = (t : ℕ) × (domain_ticks system now ≡ Ok t) × (t < n)
 FirstState now system (Paused n) = 0 < n
 FirstState now system (Ready at) = ⊥
 
@@ -139,9 +132,9 @@ FirstState now system (Ready at) = ⊥
 abbrev pub FirstWait : Time → Domain → ClockWait → Type 0
 FirstWait now system w = (w.tap ≡ system_tap 1) × FirstState now system w.state
 
-abbrev pub FirstSetup : Time → Domain → MaybeWait → Type 0
-FirstSetup now system NoWait = Unit {0}
-FirstSetup now system (Waiting w) = FirstWait now system w
+abbrev pub FirstSetup : Time → Domain → Option ClockWait → Type 0
+FirstSetup now system None = Unit {0}
+FirstSetup now system (Some w) = FirstWait now system w
 
 -- the monitor's wait starts only in a visit, and the default isn't visited
 abbrev pub starting : Time → Domain → Rules

@@ -1,9 +1,8 @@
 -- Definitions: one of several peripherals, a unit, on a pair of wires (document 02, (g)): what the bench does to it in a pass over a moment, and what the statement on
 -- two of them asks of each.
-use Rattle.std.specs.Prelude.{ℕ, ◌≤◌, Bool, true, false, cond, List, [], ◌∷◌, ◌≡◌}
+use Rattle.std.specs.Prelude.{ℕ, ◌≤◌, Bool, true, false, cond, List, [], ◌∷◌, ◌≡◌, Ok, Some}
 use Rattle.bus.specs.declared.Levels.{Levels}
 use Rattle.clocks.specs.declared.Clocks.{Clocks}
-use Rattle.clocks.specs.declared.wait.Deadline.TheVariants as deadline
 use Rattle.hosts.specs.Calls.{Call, is_now, outcome_of}
 use Rattle.hosts.specs.Calls as call
 use Rattle.iic.specs.Calls.{deadline_of}
@@ -100,7 +99,7 @@ StaysOn k now (l ∷ rest) s = On (after k (call_at now l) s) × StaysOn k now r
 -- "the earliest moment, not before the present one, that an unplayed script line or any deadline names": so not past the unit's deadline, where that isn't before
 -- the present moment. The same moment can be gone over again. (That the bench doesn't go back isn't needed.)
 abbrev pub NotPast : Clocks → Time → Iic → Time → Type 0
-NotPast k now s m = (t : Time) → deadline_of s k ≡ deadline.At t → time_of now ≤ time_of t → time_of m ≤ time_of t
+NotPast k now s m = (t : Time) → deadline_of s k ≡ Ok (Some t) → time_of now ≤ time_of t → time_of m ≤ time_of t
 
 -- a pass after one over the moment now
 pub record Next (k : Clocks) (now : Time) (s : Iic) (p : Turn) : Type 0 where

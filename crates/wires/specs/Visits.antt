@@ -1,5 +1,5 @@
 -- Laws: a visit of a unit that is on fires the filter as the view says and keeps the rest, whichever waits are due; so does a report of levels. Assumes nothing.
-use Rattle.std.specs.Prelude.{Bool, true, false, cond, ◌≡◌, refl}
+use Rattle.std.specs.Prelude.{Bool, true, false, cond, ◌≡◌, refl, Err, None, Ok, Option, Result}
 use Rattle.std.proofs.Common.{true≢false, sym, ◌∙◌, arith}
 use Rattle.std.proofs.Math.Path.{subst}
 use Rattle.bus.specs.Bus.{same_levels}
@@ -9,7 +9,7 @@ use Rattle.clocks.specs.declared.Clocks.{Clocks}
 use Rattle.hosts.specs.Calls.{is_now}
 use Rattle.hosts.specs.Invariant.{Leaves}
 use Rattle.hosts.specs.Left.{both_left, leaves_more, then_leaves, then_left, wait_leaves}
-use Rattle.iic.specs.Answers.{and_then, fine}
+use Rattle.iic.specs.Answers.{Stepped, and_then, fine}
 use Rattle.iic.specs.Calls.{take_pins_of, visit_of}
 use Rattle.iic.specs.Clocking.{filter_fires_of, fire_clock_of, fire_filter_of, fire_monitor_of, fire_setup_of, firing}
 use Rattle.iic.specs.Edges.{filtered_edges_of}
@@ -19,13 +19,8 @@ use Rattle.iic.specs.Setters.{set_filter_wait, set_raw}
 use Rattle.iic.specs.State.{awake}
 use Rattle.iic.specs.Waiting.{filter_from, schedule_filter_of, wants_filter}
 use Rattle.iic.specs.declared.Iic.{Iic}
-use Rattle.iic.specs.declared.Stepped.{Stepped}
 use Rattle.time.specs.declared.Time.{Time}
 use Rattle.waits.specs.Ends.{due_of, wait_end}
-use Rattle.waits.specs.declared.Due.{Due}
-use Rattle.waits.specs.declared.Due.TheVariants as due
-use Rattle.waits.specs.declared.MaybeWait.{MaybeWait}
-use Rattle.waits.specs.declared.MaybeWait.TheVariants.{NoWait}
 use Rattle.rates.specs.declared.Rates.{Rates}
 use Rattle.waits.specs.Ahead.{Ahead}
 use Rattle.time.specs.Truths.{by_cases}
@@ -35,6 +30,8 @@ use Rattle.wires.specs.RuleLaws.{no_wait_ahead, waiting_ahead}
 use Rattle.wires.specs.Rules.{Keeps, Sound, Spaced, later}
 use Rattle.wires.specs.Statement.{InWord}
 use Rattle.wires.specs.Views.{View, clocked, fired, made, scheduled, told, unawaited, view}
+use Rattle.clocks.specs.declared.wait.ClockWait.{ClockWait}
+use Rattle.refusals.specs.declared.Refusal.{Refusal}
 
 module _ (now : Time) (k : Clocks) (r : Rates) (spaced : Spaced r) where
   -- ## The filter
@@ -63,7 +60,7 @@ module _ (now : Time) (k : Clocks) (r : Rates) (spaced : Spaced r) where
   filter_fires : (v : View) (s : Iic) → Keeps (later now k) r v s → Leaves (Sound now k r (scheduled now k (clocked v))) (filter_fires_of now k.system s)
   unfolding filter_fires_of filter_pass_of
   filter_fires v s h =
-      let t : Iic = set_filter_wait NoWait (filter_pass_of s) in
+      let t : Iic = set_filter_wait None (filter_pass_of s) in
       then_leaves (Keeps (later now k) r (clocked v)) (Sound now k r (scheduled now k (clocked v)))
       (filtered_edges_of s.lines.filtered now k.system t) (schedule_filter_of now k.system)
       (filtered_edges now k r spaced.accepted (clocked v) s.lines.filtered t record {
@@ -82,13 +79,13 @@ module _ (now : Time) (k : Clocks) (r : Rates) (spaced : Spaced r) where
   fire_filter : (v : View) (s : Iic) → Sound now k r v s → Leaves (Sound now k r (fired now k v)) (fire_filter_of (wait_end s.filter_wait k) now k.system s)
   unfolding fire_filter_of
   fire_filter v s h =
-      subst (λ (w : MaybeWait). Leaves (Sound now k r (fired now k v)) (firing (due_of (wait_end w k) now) s (filter_fires_of now k.system s))) (sym h.keeps.filter)
+      subst (λ (w : Option ClockWait). Leaves (Sound now k r (fired now k v)) (firing (due_of (wait_end w k) now) s (filter_fires_of now k.system s))) (sym h.keeps.filter)
       (go (due_of (wait_end v.filter k) now))
     where
-      go : (d : Due) → Leaves (Sound now k r (cond (is_now d) (scheduled now k (clocked v)) v)) (firing d s (filter_fires_of now k.system s))
-      go due.Now = filter_fires v s h.keeps
-      go due.NotNow = h
-      go (due.Refused n) = tt
+      go : (d : Result Bool Refusal) → Leaves (Sound now k r (cond (is_now d) (scheduled now k (clocked v)) v)) (firing d s (filter_fires_of now k.system s))
+      go (Ok true) = filter_fires v s h.keeps
+      go (Ok false) = h
+      go (Err n) = tt
 
   -- ## `advance`
 
