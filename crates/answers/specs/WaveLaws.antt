@@ -1,12 +1,12 @@
 -- Laws: nanoseconds as the code counts them, and the lines of signals one after the other.
 -- Assumes nothing.
-use Rattle.std.specs.Prelude.{◌≡◌, refl, Bool, true, false, cond, List, [], ◌∷◌, ◌++◌, ℕ, suc, ◌+◌, ◌-◌, ◌*◌, ◌/◌, ◌%◌, ◌^◌, ◌≤◌, ◌<◌, min, ltb, length, take, get_or}
+use Rattle.std.specs.Prelude.{◌≡◌, refl, Bool, true, false, cond, List, [], ◌∷◌, ◌++◌, ℕ, suc, ◌+◌, ◌-◌, ◌*◌, ◌/◌, ◌%◌, ◌^◌, ◌≤◌, ◌<◌, min, ltb, length, take, get_or, Err, Ok, Result}
 use Rattle.std.proofs.Common.{sym, ap, ◌∙◌, arith, take-suc, length-take-le, take_all, ltb-true}
 use Rattle.time.specs.declared.Time.{Time}
-use Rattle.time.specs.declared.Moment.{Moment}
-use Rattle.time.specs.declared.Moment.TheVariants.{At, Refused}
 use Rattle.time.specs.Time.{time_of, time_from, since_of}
 use Rattle.answers.specs.Wave.{nanoseconds_in, changes_from}
+use Rattle.refusals.specs.declared.Refusal.{Refusal}
+use Rattle.refusals.specs.declared.Refusal.TheVariants.{Reversed}
 
 -- ## Nanoseconds
 
@@ -36,9 +36,9 @@ unfolding nanoseconds_in
 nanoseconds_most s f h = above s (f * 1000000000 / 2 ^ 64) h ∙ ap (min 18446744073000000000) (sym (whole s f))
 
 -- nanoseconds of a duration that may be refused
-abbrev pub in_moment : Moment → ℕ
-in_moment (At t) = nanoseconds_in (time_of t)
-in_moment (Refused n) = 0
+abbrev pub in_moment : Result Time Refusal → ℕ
+in_moment (Ok t) = nanoseconds_in (time_of t)
+in_moment (Err n) = 0
 
 none : (m n : ℕ) → m < n → 0 ≡ nanoseconds_in (m - n)
 unfolding nanoseconds_in
@@ -51,7 +51,7 @@ since_is a b = by (ltb (time_of a) (time_of b)) refl
     again : (d : ℕ) → d / 2 ^ 64 * 2 ^ 64 + d % 2 ^ 64 ≡ d
     again d = omega arith
 
-    by : (t : Bool) → ltb (time_of a) (time_of b) ≡ t → in_moment (cond t (Refused 8) (At (time_from (time_of a - time_of b)))) ≡ nanoseconds_in (time_of a - time_of b)
+    by : (t : Bool) → ltb (time_of a) (time_of b) ≡ t → in_moment (cond t (Err Reversed) (Ok (time_from (time_of a - time_of b)))) ≡ nanoseconds_in (time_of a - time_of b)
     by true e = none (time_of a) (time_of b) (ltb-true (time_of a) (time_of b) e)
     by false e = ap nanoseconds_in (again (time_of a - time_of b))
 

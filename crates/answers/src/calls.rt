@@ -1,96 +1,48 @@
 // A line's call on the peripheral.
-ghost use Rattle.std.specs.Prelude.{◌≡◌};
-ghost use Rattle.iic.specs.Calls.{advance_of, deadline_of};
-ghost use Rattle.iic.specs.Told.{of_byte, of_deadline, of_end, of_truth};
+ghost use Rattle.std.specs.Prelude.{◌≡◌, Option};
 ghost use Rattle.answers.specs.Calls.{trace_clocks};
-ghost use Rattle.answers.specs.Calls.{told, outcome_of, refused_by, taken_at, called_of, answer_of};
+ghost use Rattle.answers.specs.Calls.{told, valued, moment_in, outcome_of, refused_by, taken_at, called_of, answer_of};
+ghost use Rattle.answers.specs.declared.Value.{Value};
+ghost use Rattle.iic.specs.Calls.{advance_of, deadline_of, input_pins_of, read_of, write_of};
 
 use super::{Answer, Host, Outcome, Value, trace_clocks, trace_system};
 use clocks::Clocks;
-use clocks::wait::Deadline;
-use counts::Truth;
-use iic::{Byte, Ended, Iic, Noticed, ReadOut, Stepped};
+use iic::{Answered, Iic, Stepped};
 use lines::reading::parse;
-use lines::{Call, Last, Parsed, Verb};
+use lines::{Call, Verb, may_follow};
+use refusals::Refusal;
 use time::Time;
 
-fn of_read(done: ReadOut) -> Outcome
-    ensures { result ≡ told (of_byte done.answer) done.state }
+// What a call of the peripheral answers, as the value of an answer line.
+fn told<A, F: FnOnce(A) -> Option<Value>>(done: Answered<A>, value: F) -> Outcome
+    requires { F.IsAlwaysCallable value }
+    ensures { (f : A → Option Value) → ((a : A) (r : Option Value) → F.post value a r → r ≡ f a) → result ≡ told f done }
 {
-    let answer = done.answer;
-    let state = done.state;
-    match answer {
-        Byte::Is(value) => Outcome {
-            refusal: 0,
-            value: Value::Byte(value),
-            state,
-        },
-        Byte::Refused(refusal) => Outcome {
-            refusal,
-            value: Value::NoValue,
-            state,
-        },
+    Outcome {
+        answer: done.answer.map(value),
+        state: done.state,
     }
 }
 
-fn of_step(done: Stepped) -> Outcome
-    ensures { result ≡ told (of_end done.ended) done.state }
+// A read, over the system clock alone, which is all that it looks at.
+fn read(address: u16, time: Time, state: Iic) -> Answered<u8>
+    ensures { result ≡ read_of state address time trace_clocks }
 {
-    let ended = done.ended;
-    let state = done.state;
-    match ended {
-        Ended::Finished => Outcome {
-            refusal: 0,
-            value: Value::NoValue,
-            state,
-        },
-        Ended::Refused(refusal) => Outcome {
-            refusal,
-            value: Value::NoValue,
-            state,
-        },
-    }
+    state.read_over(address, time, trace_system())
 }
 
-fn of_pins(done: Noticed) -> Outcome
-    ensures { result ≡ told (of_truth done.answer) done.state }
+// A write, in the same way.
+fn written(address: u16, value: u8, time: Time, state: Iic) -> Stepped
+    ensures { result ≡ write_of state address value time trace_clocks }
 {
-    let answer = done.answer;
-    let state = done.state;
-    match answer {
-        Truth::Is(value) => Outcome {
-            refusal: 0,
-            value: Value::Bit(value),
-            state,
-        },
-        Truth::Refused(refusal) => Outcome {
-            refusal,
-            value: Value::NoValue,
-            state,
-        },
-    }
+    state.write_over(address, value, time, trace_system())
 }
 
-fn of_deadline(deadline: Deadline, state: Iic) -> Outcome
-    ensures { result ≡ told (of_deadline deadline) state }
+// The levels as given, in the same way.
+fn given(scl: bool, sda: bool, time: Time, state: Iic) -> Answered<bool>
+    ensures { result ≡ input_pins_of state scl sda time trace_clocks }
 {
-    match deadline {
-        Deadline::Never => Outcome {
-            refusal: 0,
-            value: Value::NoValue,
-            state,
-        },
-        Deadline::At(time) => Outcome {
-            refusal: 0,
-            value: Value::Moment(time),
-            state,
-        },
-        Deadline::Refused(refusal) => Outcome {
-            refusal,
-            value: Value::NoValue,
-            state,
-        },
-    }
+    state.input_pins_over(scl, sda, time, trace_system())
 }
 
 // A visit, over the system clock alone where that is all that the state waits for.
@@ -106,7 +58,7 @@ fn visited(time: Time, state: Iic) -> Stepped
 }
 
 // A deadline, in the same way.
-fn deadline_of(state: Iic) -> Deadline
+fn deadline_of(state: Iic) -> Result<Option<Time>, Refusal>
     ensures { result ≡ deadline_of state trace_clocks }
 {
     let alone = state.waits_on_system();
@@ -117,35 +69,45 @@ fn deadline_of(state: Iic) -> Deadline
     }
 }
 
+// The deadline as the value of an answer line; the state stays.
+fn of_deadline(deadline: Result<Option<Time>, Refusal>, state: Iic) -> Outcome
+    ensures { result ≡ record { answer = valued moment_in deadline; state = state } }
+{
+    Outcome {
+        answer: deadline.map(|d| d.map(Value::Moment)),
+        state,
+    }
+}
+
 // The call on a state, over a trace's clocks.
+#[tactic(auto, unfolding(crate::specs::Calls::outcome_of))]
 fn outcome(verb: Verb, time: Time, state: Iic) -> Outcome
     ensures { result ≡ outcome_of trace_clocks time state verb }
 {
     match verb {
-        Verb::Read(address) => of_read(state.read_over(address, time, trace_system())),
-        Verb::Write(address, byte) => of_step(state.write_over(
-            address,
-            byte,
-            time,
-            trace_system(),
-        )),
-        Verb::Pins(scl, sda) => of_pins(state.input_pins_over(scl, sda, time, trace_system())),
-        Verb::Gate(gate) => of_step(state.set_gate(gate, time, trace_clocks())),
-        Verb::Visit => of_step(visited(time, state)),
+        Verb::Read(a) => told(read(a, time, state), |b| Some(Value::Byte(b))),
+        Verb::Write(a, b) => told(written(a, b, time, state), |_| None),
+        Verb::Pins(scl, sda) => told(given(scl, sda, time, state), |b| Some(Value::Bit(b))),
+        Verb::Gate(gate) => told(state.set_gate(gate, time, trace_clocks()), |_| None),
+        Verb::Visit => told(visited(time, state), |_| None),
         Verb::Deadline => of_deadline(deadline_of(state), state),
     }
 }
 
-// The same over any clocks.
+// The same over any clocks. Not one function with `outcome`: a trace's calls hand no clock set on, so that a line takes less time.
+#[tactic(auto, unfolding(crate::specs::Calls::outcome_of))]
 pub fn outcome_in(clocks: Clocks, verb: Verb, time: Time, state: Iic) -> Outcome
     ensures { result ≡ outcome_of clocks time state verb }
 {
     match verb {
-        Verb::Read(address) => of_read(state.read(address, time, clocks)),
-        Verb::Write(address, byte) => of_step(state.write(address, byte, time, clocks)),
-        Verb::Pins(scl, sda) => of_pins(state.input_pins(scl, sda, time, clocks)),
-        Verb::Gate(gate) => of_step(state.set_gate(gate, time, clocks)),
-        Verb::Visit => of_step(state.advance(time, clocks)),
+        Verb::Read(a) => told(state.read(a, time, clocks), |b| Some(Value::Byte(b))),
+        Verb::Write(a, b) => told(state.write(a, b, time, clocks), |_| None),
+        Verb::Pins(scl, sda) => told(
+            state.input_pins(scl, sda, time, clocks),
+            |b| Some(Value::Bit(b)),
+        ),
+        Verb::Gate(gate) => told(state.set_gate(gate, time, clocks), |_| None),
+        Verb::Visit => told(state.advance(time, clocks), |_| None),
         Verb::Deadline => of_deadline(state.deadline(clocks), state),
     }
 }
@@ -154,51 +116,46 @@ pub fn outcome_in(clocks: Clocks, verb: Verb, time: Time, state: Iic) -> Outcome
 fn taken_at(time: Time, done: Outcome) -> Answer
     ensures { result ≡ taken_at time done }
 {
-    let value = done.value;
-    let state = done.state;
     Answer {
-        refusal: done.refusal,
-        value,
+        answer: done.answer,
         host: Host {
-            last: Last::After(time),
-            state,
+            last: Some(time),
+            state: done.state,
         },
     }
 }
 
 impl Host {
-    fn refused(self, refusal: u8) -> Answer
+    fn refused(self, refusal: Refusal) -> Answer
         ensures { result ≡ refused_by refusal self }
     {
         Answer {
-            refusal,
-            value: Value::NoValue,
+            answer: Err(refusal),
             host: self,
         }
     }
 
+    #[tactic(auto, unfolding(crate::specs::Calls::called_of))]
     fn called(self, call: Call) -> Answer
         ensures { result ≡ called_of trace_clocks self call }
     {
-        let last = self.last;
         let verb = call.verb;
         let time = call.time;
-        let follows = last.admits(time);
-        if follows {
+        if may_follow(self.last, time) {
             taken_at(time, outcome(verb, time, self.state))
         } else {
-            self.refused(5)
+            self.refused(Refusal::NotLater)
         }
     }
 
     // The answer to a line.
+    #[tactic(auto, unfolding(crate::specs::Calls::answer_of))]
     pub fn answer(self, line: &[u8]) -> Answer
         ensures { result ≡ answer_of trace_clocks self line.now }
     {
-        let parsed = parse(line);
-        match parsed {
-            Parsed::Malformed => self.refused(4),
-            Parsed::Calls(call) => self.called(call),
+        match parse(line) {
+            None => self.refused(Refusal::Malformed),
+            Some(call) => self.called(call),
         }
     }
 }

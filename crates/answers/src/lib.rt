@@ -9,24 +9,25 @@ pub mod text;
 pub mod wave;
 pub mod writing;
 
+use bus::Levels;
 use clocks::{Clocks, Frequencies};
 use domain::Domain;
-use iic::{Iic, Pins};
-use lines::Last;
+use iic::{Answered, Iic};
+use refusals::Refusal;
 use time::{Clock, Time};
 use window::Window;
 
 // The peripheral under a trace.
 #[derive(Clone, Copy)]
 pub struct Host {
-    pub last: Last,
+    // The time of the last line that wasn't refused 4 or 5.
+    pub last: Option<Time>,
     pub state: Iic,
 }
 
 // The value in an answer line.
 #[derive(Clone, Copy)]
 pub enum Value {
-    NoValue,
     Byte(u8),
     Bit(bool),
     Moment(Time),
@@ -36,8 +37,8 @@ pub enum Value {
 // bench, or none of its units.
 #[derive(Clone, Copy)]
 pub enum Shown {
-    Alone(Pins, u8),
-    Unit(u8, Pins, u8),
+    Alone(Option<Levels>, u8),
+    Unit(u8, Option<Levels>, u8),
     Nobody,
 }
 
@@ -45,24 +46,17 @@ pub enum Shown {
 #[derive(Clone, Copy)]
 pub struct Line {
     pub number: u64,
-    pub refusal: u8,
-    pub value: Value,
+    pub answer: Result<Option<Value>, Refusal>,
     pub shown: Shown,
 }
 
-// How a call of the peripheral ended: its refusal or 0, its value and the next state.
-#[derive(Clone, Copy)]
-pub struct Outcome {
-    pub refusal: u8,
-    pub value: Value,
-    pub state: Iic,
-}
+// What a call of the peripheral answers, a value where it has one, and the next state.
+pub type Outcome = Answered<Option<Value>>;
 
 // The same of a line.
 #[derive(Clone, Copy)]
 pub struct Answer {
-    pub refusal: u8,
-    pub value: Value,
+    pub answer: Result<Option<Value>, Refusal>,
     pub host: Host,
 }
 
@@ -78,7 +72,7 @@ pub enum Output {
 #[derive(Clone, Copy)]
 pub struct Seen {
     pub window: Window,
-    pub began: Last,
+    pub began: Option<Time>,
 }
 
 // The clock set of a trace.

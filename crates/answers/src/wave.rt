@@ -2,16 +2,16 @@
 ghost use Rattle.std.specs.Prelude.{◌≡◌, [], ◌∷◌, ◌+◌, ◌-◌, ◌≤◌, length};
 ghost use Rattle.time.specs.Time.{time_of};
 ghost use Rattle.answers.specs.Puts.{Put};
-ghost use Rattle.answers.specs.Wave.{or_else, began_by, nanoseconds_in, since_began, wires_of, driven_of, signals_of, changes_from, moment_text, wave_text};
+ghost use Rattle.answers.specs.Wave.{began_by, nanoseconds_in, since_began, wires_of, driven_of, signals_of, changes_from, moment_text, wave_text};
 
 use super::text::{put_byte, put_decimal, put_two};
 use super::writing::bit_glyph;
 use super::{Answer, Output};
 use bus::Levels;
-use iic::{Iic, Pins};
-use lines::Last;
+use iic::Iic;
+use refusals::number_ended;
 use registers::bits::{AAS, ADZ, AL, NACKF, RDRF, STOP, TDRE, TEND};
-use time::{Moment, Time};
+use time::Time;
 
 // A byte for each of two lines.
 #[derive(Clone, Copy)]
@@ -35,47 +35,47 @@ fn nanoseconds_from(first: Time, time: Time) -> u64
     ensures { result ≡ nanoseconds_in (time_of time - time_of first) }
 {
     match time.duration_since(first) {
-        Moment::At(duration) => nanoseconds(duration),
-        Moment::Refused(_) => 0,
+        Ok(duration) => nanoseconds(duration),
+        Err(_) => 0,
     }
 }
 
 // Nanoseconds since the first line.
-fn since(began: Last, time: Time) -> u64
+fn since(began: Option<Time>, time: Time) -> u64
     ensures { result ≡ since_began began time }
 {
     match began {
-        Last::First => 0,
-        Last::After(first) => nanoseconds_from(first, time),
+        None => 0,
+        Some(first) => nanoseconds_from(first, time),
     }
 }
 
 // The levels of the wires themselves.
-fn wires(given: Levels, pins: Pins) -> Levels
+fn wires(given: Levels, pins: Option<Levels>) -> Levels
     ensures { result ≡ wires_of given pins }
 {
     match pins {
-        Pins::NoPins => given,
-        Pins::Driven(levels) => bus::wired(given, levels),
+        None => given,
+        Some(levels) => bus::wired(given, levels),
     }
 }
 
-fn driven(pins: Pins) -> Glyphs
+fn driven(pins: Option<Levels>) -> Glyphs
     ensures { result ≡ driven_of pins }
 {
     match pins {
-        Pins::NoPins => Glyphs {
+        None => Glyphs {
             scl: b'z',
             sda: b'z',
         },
-        Pins::Driven(levels) => Glyphs {
+        Some(levels) => Glyphs {
             scl: bit_glyph(levels.scl),
             sda: bit_glyph(levels.sda),
         },
     }
 }
 
-fn signals(given: Levels, pins: Pins, status: u8, gate: bool) -> [u8; 15]
+fn signals(given: Levels, pins: Option<Levels>, status: u8, gate: bool) -> [u8; 15]
     ensures { result ≡ signals_of given pins status gate }
 {
     let wires = wires(given, pins);
@@ -112,12 +112,8 @@ fn put_changes(out: &mut [u8], at: usize, values: &[u8]) -> usize
     ensures { Put out.old out.new at result (changes_from 33 values.now) }
 {
     let mut next = at;
-    let mut name = 33u8;
-    let mut i = 0usize;
-    while i < 15 {
-        next = put_change(out, next, values[i], name);
-        name += 1;
-        i += 1;
+    for (i, &value) in values.iter().enumerate() {
+        next = put_change(out, next, value, b'!' + i as u8);
     }
     next
 }
@@ -141,42 +137,33 @@ fn write_moment(out: &mut [u8], time: u64, state: Iic) -> usize
     put_changes(out, c, &values)
 }
 
-// The first line's time after a line that left the other time.
-fn or_else(began: Last, last: Last) -> Last
-    ensures { result ≡ or_else began last }
-{
-    match began {
-        Last::First => last,
-        Last::After(time) => Last::After(time),
-    }
-}
-
-// The same, kept where signals are written.
-pub(crate) fn began_by(output: Output, began: Last, last: Last) -> Last
+// The time of the first line that wasn't refused 4 or 5, after a line that left the other time; kept where signals are written.
+pub(crate) fn began_by(output: Output, began: Option<Time>, last: Option<Time>) -> Option<Time>
     ensures { result ≡ began_by output began last }
 {
     match output {
         Output::Answers => began,
         Output::Reports => began,
-        Output::Waves => or_else(began, last),
+        Output::Waves => began.or(last),
     }
 }
 
 impl Answer {
     // Nothing for a line refused 4 or 5.
-    pub(crate) fn write_wave(self, began: Last, out: &mut [u8]) -> usize
+    pub(crate) fn write_wave(self, began: Option<Time>, out: &mut [u8]) -> usize
         requires { 80 ≤ length out.old }
         ensures { Put out.old out.new 0 result (wave_text began self) }
     {
         let host = self.host;
         let last = host.last;
         let state = host.state;
-        if (self.refusal == 4) | (self.refusal == 5) {
+        let refusal = number_ended(self.answer);
+        if (refusal == 4) | (refusal == 5) {
             return 0;
         }
         match last {
-            Last::First => 0,
-            Last::After(time) => write_moment(out, since(began, time), state),
+            None => 0,
+            Some(time) => write_moment(out, since(began, time), state),
         }
     }
 }

@@ -1,16 +1,17 @@
 // Answer lines.
-ghost use Rattle.std.specs.Prelude.{◌≡◌, ◌+◌, ◌≤◌, length, [], ◌∷◌};
+ghost use Rattle.std.specs.Prelude.{◌≡◌, ◌+◌, ◌≤◌, length, [], ◌∷◌, Some};
 ghost use Rattle.answers.specs.Puts.{Put};
 ghost use Rattle.lines.specs.Numbers.{decimal_in};
 ghost use Rattle.lines.specs.Format.{tab, bit_glyph};
 ghost use Rattle.lines.specs.Format.{dash};
-ghost use Rattle.answers.specs.Answers.{value_text, levels_text, unit_text, state_text, shown_text, answer_text, room_for, line_of, text_of, report_text, text_by, seen_by};
+ghost use Rattle.answers.specs.Answers.{value_in, value_text, levels_text, unit_text, state_text, shown_text, answer_text, room_for, line_of, text_of, report_text, text_by, seen_by};
 ghost use Rattle.answers.specs.declared.Value.TheVariants.{Moment};
 
 use super::text::{put_byte, put_decimal, put_digits, put_hex, put_two};
 use super::wave::began_by;
 use super::{Answer, Host, Line, Output, Seen, Shown, Value};
-use iic::Pins;
+use bus::Levels;
+use refusals::{Refusal, number_ended};
 use time::Time;
 
 pub(crate) fn bit_glyph(b: bool) -> u8
@@ -19,35 +20,44 @@ pub(crate) fn bit_glyph(b: bool) -> u8
     if b { b'1' } else { b'0' }
 }
 
+// The value of an answer line, none for a refusal.
+fn value_in(answer: Result<Option<Value>, Refusal>) -> Option<Value>
+    ensures { result ≡ value_in answer }
+{
+    answer.unwrap_or(None)
+}
+
 // Seconds, a colon, the fraction.
 fn put_time(out: &mut [u8], at: usize, time: Time) -> usize
     requires { at + 37 ≤ length out.old }
-    ensures { Put out.old out.new at result (value_text (Moment time)) }
+    ensures { Put out.old out.new at result (value_text (Some (Moment time))) }
 {
     let colon = put_decimal(out, at, time.seconds, 20);
     let next = put_byte(out, colon, b':');
     put_hex(out, next, time.fraction, 16)
 }
 
-fn put_value(out: &mut [u8], at: usize, value: Value) -> usize
+fn put_value(out: &mut [u8], at: usize, value: Option<Value>) -> usize
     requires { at + 37 ≤ length out.old }
     ensures { Put out.old out.new at result (value_text value) }
 {
+    let Some(value) = value else {
+        return put_byte(out, at, b'-');
+    };
     match value {
-        Value::NoValue => put_byte(out, at, b'-'),
         Value::Byte(byte) => put_digits(out, at, byte),
         Value::Bit(bit) => put_byte(out, at, bit_glyph(bit)),
         Value::Moment(time) => put_time(out, at, time),
     }
 }
 
-fn put_levels(out: &mut [u8], at: usize, pins: Pins) -> usize
+fn put_levels(out: &mut [u8], at: usize, pins: Option<Levels>) -> usize
     requires { at + 2 ≤ length out.old }
     ensures { Put out.old out.new at result (levels_text pins) }
 {
     match pins {
-        Pins::NoPins => put_byte(out, at, b'-'),
-        Pins::Driven(levels) => put_two(out, at, bit_glyph(levels.scl), bit_glyph(levels.sda)),
+        None => put_byte(out, at, b'-'),
+        Some(levels) => put_two(out, at, bit_glyph(levels.scl), bit_glyph(levels.sda)),
     }
 }
 
@@ -72,7 +82,7 @@ fn put_unit(out: &mut [u8], at: usize, shown: Shown) -> usize
 }
 
 // Levels, a tab, the status.
-fn put_state(out: &mut [u8], at: usize, pins: Pins, status: u8) -> usize
+fn put_state(out: &mut [u8], at: usize, pins: Option<Levels>, status: u8) -> usize
     requires { at + 5 ≤ length out.old }
     ensures { Put out.old out.new at result (state_text pins status) }
 {
@@ -118,12 +128,13 @@ impl Line {
         requires { 80 ≤ length out.old }
         ensures { Put out.old out.new 0 result (answer_text self) }
     {
-        let value = self.value;
+        let refusal = number_ended(self.answer);
+        let value = value_in(self.answer);
         let shown = self.shown;
         let a = put_decimal(out, 0, self.number, 20);
         let b = put_unit(out, a, shown);
         let c = put_byte(out, b, b'\t');
-        let d = put_decimal(out, c, self.refusal as u64, 3);
+        let d = put_decimal(out, c, refusal as u64, 3);
         let e = put_byte(out, d, b'\t');
         let f = put_value(out, e, value);
         let g = put_byte(out, f, b'\t');
@@ -177,13 +188,10 @@ impl Answer {
     fn line(self, number: u64) -> Line
         ensures { result ≡ line_of number self }
     {
-        let value = self.value;
-        let host = self.host;
-        let state = host.state;
+        let state = self.host.state;
         Line {
             number,
-            refusal: self.refusal,
-            value,
+            answer: self.answer,
             shown: Shown::Alone(state.pins(), state.registers.status),
         }
     }

@@ -3,7 +3,7 @@
 use mathlib.Core.Path.{◌≡◌, refl, sym, ap, ◌∙◌, subst}
 use mathlib.Core.Bool.{Bool, true, false, cond, not, ◌&&◌, ◌||◌}
 use mathlib.Core.List.{List, [], ◌∷◌}
-use Prim.Native.Nat.{ℕ, zero, suc, ◌+◌, ◌-◌, ◌*◌, ◌%◌, ◌^◌, ◌≤◌, ◌<◌}
+use Prim.Native.Nat.{ℕ, zero, suc, ◌+◌, ◌-◌, ◌*◌, ◌%◌, ◌^◌, ◌≤◌, ◌<◌, min}
 use native.Mathlib.Nat.{pow-suc, pow-le-pow_right}
 use native.Mathlib.Numerals.{add-one}
 use native.Mathlib.Omega.{arith}
@@ -11,10 +11,27 @@ use lib.Dec.{ltb, eqb}
 use lib.ListN.{length, drop, get_or, drop_of_length-le}
 use lib.Seq.{drop-cons, drop-drop}
 use borrow.Author.Tests.{ltb-true, ltb-false, lt-ltb, le-ltb, eq-eqb, ne_eqb, eqb-true, eqb-false}
-use Rattle.lines.specs.declared.reading.Scanned.TheVariants.{NoSeconds}
-use Rattle.lines.specs.declared.reading.MaybeUnits.TheVariants.{NoUnits, Units}
+use Rattle.std.specs.Prelude.{None, Some}
+use Rattle.std.proofs.lemmas.Option.{none-some}
+use Rattle.lines.specs.NumberLaws.{some_is}
 use Rattle.lines.specs.Lines.{line_length}
-use Rattle.lines.specs.Reading.{digit_of, closed_by, scan, hex_from}
+use Rattle.lines.specs.Reading.{digit_of, digit_in, closed_by, scan, hex_from}
+
+pub no_digit : (radix b : ℕ) → radix ≤ 16 → digit_in radix b ≡ None → radix ≤ digit_of b
+unfolding digit_in
+no_digit radix b h e = by (ltb (digit_of b) (min radix 16)) refl e
+  where
+    by : (t : Bool) → ltb (digit_of b) (min radix 16) ≡ t → cond t (Some (digit_of b)) None ≡ None → radix ≤ digit_of b
+    by true t e = absurd (none-some (digit_of b) (sym e))
+    by false t e = omega (arith, h, ltb-false (digit_of b) (min radix 16) t)
+
+pub some_digit : (radix b d : ℕ) → digit_in radix b ≡ Some d → (digit_of b ≡ d) × (digit_of b < radix)
+unfolding digit_in
+some_digit radix b d e = by (ltb (digit_of b) (min radix 16)) refl e
+  where
+    by : (t : Bool) → ltb (digit_of b) (min radix 16) ≡ t → cond t (Some (digit_of b)) None ≡ Some d → (digit_of b ≡ d) × (digit_of b < radix)
+    by true t e = (some_is (digit_of b) d e, omega (arith, ltb-true (digit_of b) (min radix 16) t))
+    by false t e = absurd (none-some d e)
 
 module _ (l : List ℕ) (i : ℕ) (within : i < length l) where
   abbrev pub byte : ℕ
@@ -28,11 +45,11 @@ module _ (l : List ℕ) (i : ℕ) (within : i < length l) where
     unfolding scan
     scan_closed d = ap (scan n i) here ∙ simp (le-ltb (digit_of byte) 10 d)
 
-    pub scan_needless : digit_of byte < 10 → (eqb n 0 && not (eqb i 0)) ≡ true → scan n i (drop i l) ≡ NoSeconds
+    pub scan_needless : digit_of byte < 10 → (eqb n 0 && not (eqb i 0)) ≡ true → scan n i (drop i l) ≡ None
     unfolding scan
     scan_needless d z = ap (scan n i) here ∙ simp (lt-ltb (digit_of byte) 10 d, z)
 
-    pub scan_large : digit_of byte < 10 → (eqb n 0 && not (eqb i 0)) ≡ false → 2 ^ 64 ≤ n * 10 + digit_of byte → scan n i (drop i l) ≡ NoSeconds
+    pub scan_large : digit_of byte < 10 → (eqb n 0 && not (eqb i 0)) ≡ false → 2 ^ 64 ≤ n * 10 + digit_of byte → scan n i (drop i l) ≡ None
     unfolding scan
     scan_large d z h = ap (scan n i) here ∙ simp (lt-ltb (digit_of byte) 10 d, z, le-ltb (n * 10 + digit_of byte) (2 ^ 64) h)
 
@@ -41,14 +58,14 @@ module _ (l : List ℕ) (i : ℕ) (within : i < length l) where
     unfolding scan
     scan_on d z h = ap (scan n i) here ∙ simp (lt-ltb (digit_of byte) 10 d, z, lt-ltb (n * 10 + digit_of byte) (2 ^ 64) h)
 
-    pub hex_on : i < 16 → digit_of byte < 16 → hex_from (16 - i) n (drop i l) ≡ hex_from (16 - (i + 1)) (n * 16 + digit_of byte) (drop (i + 1) l)
+    hex_on : i < 16 → digit_of byte < 16 → hex_from (16 - i) n (drop i l) ≡ hex_from (16 - (i + 1)) (n * 16 + digit_of byte) (drop (i + 1) l)
     unfolding hex_from
     hex_on few d = ap (hex_from (16 - i) n) here ∙ ap (λ (k : ℕ). hex_from k n (byte ∷ drop (i + 1) l)) (fewer i few) ∙ simp (lt-ltb (digit_of byte) 16 d)
       where
         fewer : (i : ℕ) → i < 16 → 16 - i ≡ suc (16 - (i + 1))
         fewer i h = omega arith
 
-    pub hex_bad : i < 16 → 16 ≤ digit_of byte → hex_from (16 - i) n (drop i l) ≡ NoUnits
+    hex_bad : i < 16 → 16 ≤ digit_of byte → hex_from (16 - i) n (drop i l) ≡ None
     unfolding hex_from
     hex_bad few d = ap (hex_from (16 - i) n) here ∙ ap (λ (k : ℕ). hex_from k n (byte ∷ drop (i + 1) l)) (fewer i few) ∙ simp (le-ltb (digit_of byte) 16 d)
       where
@@ -57,14 +74,14 @@ module _ (l : List ℕ) (i : ℕ) (within : i < length l) where
 
     -- a digit more, or what is no digit, of a fraction that was read so far
     pub hex_step : i < 16 → (fine : Bool) (d : ℕ) → d ≡ digit_of byte
-        → cond fine (hex_from (16 - i) n (drop i l)) NoUnits ≡ cond (fine && ltb d 16) (hex_from (16 - (i + 1)) (n * 16 + d % 16) (drop (i + 1) l)) NoUnits
+        → cond fine (hex_from (16 - i) n (drop i l)) None ≡ cond (fine && ltb d 16) (hex_from (16 - (i + 1)) (n * 16 + d % 16) (drop (i + 1) l)) None
     hex_step few false d e = refl
     hex_step few true d e = split (ltb d 16) refl
       where
         small : (d : ℕ) → d < 16 → d ≡ d % 16
         small d h = omega arith
 
-        split : (t : Bool) → ltb d 16 ≡ t → hex_from (16 - i) n (drop i l) ≡ cond t (hex_from (16 - (i + 1)) (n * 16 + d % 16) (drop (i + 1) l)) NoUnits
+        split : (t : Bool) → ltb d 16 ≡ t → hex_from (16 - i) n (drop i l) ≡ cond t (hex_from (16 - (i + 1)) (n * 16 + d % 16) (drop (i + 1) l)) None
         split true h =
             hex_on few (subst (λ (x : ℕ). x < 16) e (ltb-true d 16 h))
             ∙ ap (λ (x : ℕ). hex_from (16 - (i + 1)) (n * 16 + x) (drop (i + 1) l)) (sym e ∙ small d (ltb-true d 16 h))
@@ -110,11 +127,11 @@ ends_by l at i h = by (ltb (line_length (drop at l)) i) (eqb (get_or l (at + i) 
         sym (le-ltb (line_length (drop at l)) (i + 1)
         (omega (arith, more (ltb-false (line_length (drop at l)) i e), end_on l (at + i) h (eqb-false (get_or l (at + i) 0) 10 f))))
 
-pub scan_none : (l : List ℕ) (n i : ℕ) → length l ≤ i → scan n i (drop i l) ≡ NoSeconds
+pub scan_none : (l : List ℕ) (n i : ℕ) → length l ≤ i → scan n i (drop i l) ≡ None
 unfolding scan
 scan_none l n i h = ap (scan n i) (drop_of_length-le l h)
 
-pub hex_end : (l : List ℕ) (n i : ℕ) → 16 ≤ i → hex_from (16 - i) n (drop i l) ≡ Units n
+pub hex_end : (l : List ℕ) (n i : ℕ) → 16 ≤ i → hex_from (16 - i) n (drop i l) ≡ Some n
 unfolding hex_from
 hex_end l n i h = ap (λ (k : ℕ). hex_from k n (drop i l)) (none i h)
   where

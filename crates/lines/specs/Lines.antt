@@ -1,10 +1,8 @@
 -- Definitions: the lines of a trace (document 01, "The trace player": a newline closes a line, a last one may lack it),
 -- and which time may follow which.
-use Rattle.std.specs.Prelude.{Bool, true, cond, not, List, [], ◌∷◌, ◌++◌, ℕ, suc, eqb}
+use Rattle.std.specs.Prelude.{Bool, true, cond, not, List, [], ◌∷◌, ◌++◌, ℕ, suc, eqb, Option, None, Some}
 use Rattle.time.specs.declared.Time.{Time}
 use Rattle.time.specs.Time.{earlier}
-use Rattle.lines.specs.declared.Last.{Last}
-use Rattle.lines.specs.declared.Last.TheVariants.{First, After}
 
 -- a line that was begun and isn't closed: it counts where the trace has ended and the line has a byte
 abbrev pub unclosed : Bool → List ℕ → List (List ℕ)
@@ -31,6 +29,6 @@ line_length [] = 0
 line_length (x ∷ xs) = cond (eqb x 10) 0 (suc (line_length xs))
 
 -- no time is earlier than that of the last line not refused 4 or 5 (document 02, (c)); the first may be any
-abbrev pub may_follow : Last → Time → Bool
-may_follow First t = true
-may_follow (After u) t = not (earlier t u)
+abbrev pub may_follow : Option Time → Time → Bool
+may_follow None t = true
+may_follow (Some u) t = not (earlier t u)

@@ -1,10 +1,10 @@
 -- Laws: reading a number gives back what writing it spells, and the other way round.
 -- Assumes nothing.
-use Rattle.std.specs.Prelude.{◌≡◌, refl, Bool, true, false, cond, not, ◌&&◌, List, [], ◌∷◌, ◌++◌, ◌⊎◌, ℕ, zero, suc, ◌+◌, ◌-◌, ◌*◌, ◌/◌, ◌%◌, ◌^◌, ◌≤◌, ◌<◌, ltb, eqb, length, drop}
+use Rattle.std.specs.Prelude.{◌≡◌, refl, Bool, true, false, cond, not, ◌&&◌, List, [], ◌∷◌, ◌++◌, ◌⊎◌, ℕ, zero, suc, ◌+◌, ◌-◌, ◌*◌, ◌/◌, ◌%◌, ◌^◌, ◌≤◌, ◌<◌, ltb, eqb, length, drop, Option, None, Some}
 use Rattle.std.proofs.Common.{sym, ap, ◌∙◌, subst, append_assoc, inl, inr, ⊎_elim, pow-suc, add-one, arith, length-append, lt-ltb, le-ltb, ne_eqb, ltb-true, ltb-false, eqb-true}
 use Rattle.std.proofs.Math.Nat.{sub-zero}
 use Rattle.std.proofs.lemmas.Bool.{eqb-false}
-use Rattle.lines.specs.declared.reading.Scanned.TheVariants.{NoSeconds, Seconds}
+use Rattle.std.proofs.lemmas.Option.{none-some}
 use Rattle.lines.specs.Numbers.{glyph, decimal_in, hex_in}
 use Rattle.lines.specs.Reading.{digit_of, closed_by, scan, seconds_of}
 
@@ -26,6 +26,11 @@ below_or_not a b = told (ltb a b) refl
     told : (t : Bool) → ltb a b ≡ t → (a < b) ⊎ (b ≤ a)
     told true e = inl (ltb-true a b e)
     told false e = inr (ltb-false a b e)
+
+-- ## Options
+
+pub some_is : {A : Type 0} (x y : A) → Some x ≡ Some y → x ≡ y
+some_is x y e = cc
 
 -- ## Digits
 
@@ -87,9 +92,6 @@ glyph_digit x h =
 
 -- ## Seconds
 
-none_is : {A : Type 0} (v m : ℕ) → NoSeconds ≡ Seconds v m → A
-none_is v m e = absurd (let z : ◌≡◌ {A = ℕ} 0 1 = cc in omega arith)
-
 -- the text of the digits read so far
 abbrev begun : ℕ → ℕ → List ℕ
 begun n i = cond (eqb i 0) [] (decimal_in 20 n)
@@ -137,7 +139,6 @@ decimal_some k n =
 -- what scanning the rest of a line tells: the place after the tab, and the text up to it
 record Told (n i : ℕ) (xs : List ℕ) (v m : ℕ) : Type 0 where
   further : i < m
-  within : m ≤ i + length xs
   fits : v < 2 ^ 64
   text : begun n i ++ xs ≡ decimal_in 20 v ++ 9 ∷ drop (m - i) xs
 
@@ -182,7 +183,6 @@ told_more : (x n i : ℕ) (xs : List ℕ) (v m : ℕ) → (i ≡ 0 → n ≡ 0) 
     → Told (n * 10 + digit_of x) (i + 1) xs v m → Told n i (x ∷ xs) v m
 told_more x n i xs v m start d z l r = record {
   further = let f = r.further in omega arith;
-  within = let f = r.within in omega arith;
   fits = r.fits;
   text =
       sym (append_assoc (begun n i) (x ∷ []) xs)
@@ -192,18 +192,18 @@ told_more x n i xs v m start d z l r = record {
       ∙ ap (λ (k : ℕ). decimal_in 20 v ++ 9 ∷ drop k (x ∷ xs)) (next_place i m r.further);
 }
 
-closed_told : (x n i : ℕ) (xs : List ℕ) (v m : ℕ) → n < 2 ^ 64 → closed_by x n i ≡ Seconds v m → Told n i (x ∷ xs) v m
+closed_told : (x n i : ℕ) (xs : List ℕ) (v m : ℕ) → n < 2 ^ 64 → closed_by x n i ≡ Some (v, m) → Told n i (x ∷ xs) v m
 unfolding closed_by
-closed_told x n i xs v m small e = ⊎_elim (λ t. found (both (eqb x 9) (not (eqb i 0)) t.0) t.1) (λ t. none_is v m t.1) (chosen (eqb x 9 && not (eqb i 0)) (Seconds n (i + 1)) NoSeconds (Seconds v m) e)
+closed_told x n i xs v m small e = ⊎_elim (λ t. found (both (eqb x 9) (not (eqb i 0)) t.0) t.1) (λ t. absurd (none-some (v, m) t.1)) (chosen (eqb x 9 && not (eqb i 0)) (Some (n, i + 1)) None (Some (v, m)) e)
   where
-    found : ((eqb x 9 ≡ true) × (not (eqb i 0) ≡ true)) → Seconds n (i + 1) ≡ Seconds v m → Told n i (x ∷ xs) v m
+    found : ((eqb x 9 ≡ true) × (not (eqb i 0) ≡ true)) → ◌≡◌ {A = Option (ℕ × ℕ)} (Some (n, i + 1)) (Some (v, m)) → Told n i (x ∷ xs) v m
     found t e =
-        let vn : n ≡ v = cc in
-        let mi : i + 1 ≡ m = cc in
+        let same = some_is (n, i + 1) (v, m) e in
+        let vn : n ≡ v = ap (λ (p : ℕ × ℕ). p.0) same in
+        let mi : i + 1 ≡ m = ap (λ (p : ℕ × ℕ). p.1) same in
         let x9 : x ≡ 9 = eqb-true x 9 t.0 in
         record {
           further = omega arith;
-          within = omega arith;
           fits = omega arith;
           text =
               ap (λ (b : Bool). cond b [] (decimal_in 20 n) ++ x ∷ xs) (nonzero (eqb i 0) t.1)
@@ -212,29 +212,25 @@ closed_told x n i xs v m small e = ⊎_elim (λ t. found (both (eqb x 9) (not (e
               ∙ ap (λ (k : ℕ). decimal_in 20 v ++ 9 ∷ drop k (x ∷ xs)) (place_one i m mi);
         }
 
-scan_told : (xs : List ℕ) (n i v m : ℕ) → n < 2 ^ 64 → (i ≡ 0 → n ≡ 0) → scan n i xs ≡ Seconds v m → Told n i xs v m
+scan_told : (xs : List ℕ) (n i v m : ℕ) → n < 2 ^ 64 → (i ≡ 0 → n ≡ 0) → scan n i xs ≡ Some (v, m) → Told n i xs v m
 unfolding scan
-scan_told [] n i v m small start e = none_is v m e
+scan_told [] n i v m small start e = absurd (none-some (v, m) e)
 scan_told (x ∷ xs) n i v m small start e =
     ⊎_elim
     (λ t.
     ⊎_elim
-    (λ u. none_is v m u.1)
+    (λ u. absurd (none-some (v, m) u.1))
     (λ u.
     ⊎_elim
     (λ w. told_more x n i xs v m start (ltb-true (digit_of x) 10 t.0) u.0 (ltb-true (n * 10 + digit_of x) (2 ^ 64) w.0) (scan_told xs (n * 10 + digit_of x) (i + 1) v m (ltb-true (n * 10 + digit_of x) (2 ^ 64) w.0) (λ z. absurd (omega arith)) w.1))
-    (λ w. none_is v m w.1)
-    (chosen (ltb (n * 10 + digit_of x) (2 ^ 64)) (scan (n * 10 + digit_of x) (i + 1) xs) NoSeconds (Seconds v m) u.1))
-    (chosen (eqb n 0 && not (eqb i 0)) NoSeconds (cond (ltb (n * 10 + digit_of x) (2 ^ 64)) (scan (n * 10 + digit_of x) (i + 1) xs) NoSeconds) (Seconds v m) t.1))
+    (λ w. absurd (none-some (v, m) w.1))
+    (chosen (ltb (n * 10 + digit_of x) (2 ^ 64)) (scan (n * 10 + digit_of x) (i + 1) xs) None (Some (v, m)) u.1))
+    (chosen (eqb n 0 && not (eqb i 0)) None (cond (ltb (n * 10 + digit_of x) (2 ^ 64)) (scan (n * 10 + digit_of x) (i + 1) xs) None) (Some (v, m)) t.1))
     (λ t. closed_told x n i xs v m small t.1)
-    (chosen (ltb (digit_of x) 10) (cond (eqb n 0 && not (eqb i 0)) NoSeconds (cond (ltb (n * 10 + digit_of x) (2 ^ 64)) (scan (n * 10 + digit_of x) (i + 1) xs) NoSeconds)) (closed_by x n i) (Seconds v m) e)
-
-pub seconds_within : (l : List ℕ) (v m : ℕ) → seconds_of l ≡ Seconds v m → m ≤ length l
-unfolding seconds_of
-seconds_within l v m e = let h : m ≤ 0 + length l = (scan_told l 0 0 v m (omega arith) (λ z. refl) e).within in omega arith
+    (chosen (ltb (digit_of x) 10) (cond (eqb n 0 && not (eqb i 0)) None (cond (ltb (n * 10 + digit_of x) (2 ^ 64)) (scan (n * 10 + digit_of x) (i + 1) xs) None)) (closed_by x n i) (Some (v, m)) e)
 
 -- what is read as seconds is their text and a tab
-pub seconds_told : (l : List ℕ) (v m : ℕ) → seconds_of l ≡ Seconds v m → (v < 2 ^ 64) × (l ≡ decimal_in 20 v ++ 9 ∷ drop m l)
+pub seconds_told : (l : List ℕ) (v m : ℕ) → seconds_of l ≡ Some (v, m) → (v < 2 ^ 64) × (l ≡ decimal_in 20 v ++ 9 ∷ drop m l)
 unfolding seconds_of
 seconds_told l v m e = let t = scan_told l 0 0 v m (omega arith) (λ z. refl) e in (t.fits, t.text ∙ ap (λ (k : ℕ). decimal_in 20 v ++ 9 ∷ drop k l) (sub-zero m))
 
@@ -268,7 +264,7 @@ scan_text (suc k) n ys h l =
     ∙ ap (λ (d : List ℕ). scan n (length d) ys) (sym (step k n b)))
     (below_or_not n 10)
 
-pub seconds_text : (n : ℕ) (ys : List ℕ) → n < 2 ^ 64 → seconds_of (decimal_in 20 n ++ 9 ∷ ys) ≡ Seconds n (length (decimal_in 20 n) + 1)
+pub seconds_text : (n : ℕ) (ys : List ℕ) → n < 2 ^ 64 → seconds_of (decimal_in 20 n ++ 9 ∷ ys) ≡ Some (n, length (decimal_in 20 n) + 1)
 unfolding seconds_of scan closed_by digit_of
 seconds_text n ys h =
     let s : 0 < length (decimal_in 20 n) = decimal_some 19 n in

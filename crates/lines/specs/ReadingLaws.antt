@@ -1,28 +1,19 @@
 -- Laws: the reading definition accepts exactly the lines that `Format` spells, each as its call (`spelled_is_read`, `read_is_spelled`).
 -- Assumes nothing.
-use Rattle.std.specs.Prelude.{◌≡◌, refl, Bool, true, false, cond, not, ◌&&◌, List, [], ◌∷◌, ◌++◌, ℕ, zero, suc, ◌+◌, ◌*◌, ◌/◌, ◌%◌, ◌^◌, ◌≤◌, ◌<◌, ltb, eqb, length, drop, get_or}
+use Rattle.std.specs.Prelude.{◌≡◌, refl, Bool, true, false, cond, not, ◌&&◌, List, [], ◌∷◌, ◌++◌, ℕ, zero, suc, ◌+◌, ◌*◌, ◌/◌, ◌%◌, ◌^◌, ◌≤◌, ◌<◌, ltb, eqb, length, drop, get_or, Option, None, Some, option_map, option_and_then}
 use Rattle.std.proofs.Common.{sym, ap, ◌∙◌, subst, append_assoc, ⊎_elim, pow-suc, div-one, arith, length-append, length-drop, drop_at, drop-cons, drop-drop, lt-ltb, le-ltb, eq-eqb, ne_eqb, ltb-true, ltb-false, eqb-true}
 use Rattle.std.proofs.Math.Nat.{pow-succ', div-div-eq-div-mul, div-eq_of_lt}
 use Rattle.std.proofs.Math.Seq.{drop-append-add}
 use Rattle.std.proofs.lemmas.List.{get_or_at}
+use Rattle.std.proofs.lemmas.Option.{none-some, option_and_then_some}
 use Rattle.time.specs.declared.Time.{Time}
 use Rattle.lines.specs.declared.Verb.{Verb}
 use Rattle.lines.specs.declared.Verb.TheVariants.{Read, Write, Pins, Gate, Visit, Deadline}
 use Rattle.lines.specs.declared.Call.{Call}
-use Rattle.lines.specs.declared.Parsed.{Parsed}
-use Rattle.lines.specs.declared.Parsed.TheVariants.{Malformed, Calls}
-use Rattle.lines.specs.declared.reading.MaybeTime.{MaybeTime}
-use Rattle.lines.specs.declared.reading.MaybeTime.TheVariants.{NoTime, IsTime}
-use Rattle.lines.specs.declared.reading.Scanned.{Scanned}
-use Rattle.lines.specs.declared.reading.Scanned.TheVariants.{NoSeconds, Seconds}
-use Rattle.lines.specs.declared.reading.MaybeUnits.{MaybeUnits}
-use Rattle.lines.specs.declared.reading.MaybeUnits.TheVariants.{NoUnits, Units}
-use Rattle.lines.specs.declared.reading.MaybeVerb.{MaybeVerb}
-use Rattle.lines.specs.declared.reading.MaybeVerb.TheVariants.{NoVerb, IsVerb}
 use Rattle.lines.specs.Numbers.{glyph, decimal_in, hex_in}
 use Rattle.lines.specs.Format.{bit_glyph, spell_verb, time_text, spell, VerbInRange, TimeInRange, InRange}
-use Rattle.lines.specs.Reading.{digit_of, hex_from, fraction_of, bare_of, single_of, pair_of, written_of, five_of, six_of, verb_of, with_verb, with_fraction, with_seconds, with_time, seconds_of, fraction_at, timed_of, call_of}
-use Rattle.lines.specs.NumberLaws.{chosen, both, below_or_not, digit_glyph, glyph_digit, seconds_told, seconds_text, decimal_length, hex_length}
+use Rattle.lines.specs.Reading.{digit_of, hex_from, fraction_of, bare_of, single_of, pair_of, written_of, five_of, six_of, verb_of, seconds_of, fraction_at, timed_of, call_of}
+use Rattle.lines.specs.NumberLaws.{some_is, chosen, both, below_or_not, digit_glyph, glyph_digit, seconds_told, seconds_text, decimal_length, hex_length}
 
 -- ## Fractions
 
@@ -36,9 +27,6 @@ hex_cons (suc k) v =
 
 above : (k v : ℕ) → v / 16 ^ suc k ≡ v / 16 ^ k / 16
 above k v = ap (λ (n : ℕ). v / n) (pow-suc 16 k) ∙ sym (div-div-eq-div-mul v (16 ^ k) 16)
-
-no_units : {A : Type 0} (v : ℕ) → NoUnits ≡ Units v → A
-no_units v e = absurd (let z : ◌≡◌ {A = ℕ} 0 1 = cc in omega arith)
 
 -- one digit before others
 hex_first : (k n x : ℕ) (xs : List ℕ) (v : ℕ) → digit_of x < 16 → ((xs ≡ hex_in k v ++ drop k xs) × (v / 16 ^ k ≡ n * 16 + digit_of x))
@@ -60,19 +48,19 @@ hex_first k n x xs v d r = (
 joined : (q n : ℕ) → q / 16 ≡ n → q ≡ n * 16 + q % 16
 joined q n h = omega arith
 
-hex_told : (k n : ℕ) (xs : List ℕ) (v : ℕ) → hex_from k n xs ≡ Units v → (xs ≡ hex_in k v ++ drop k xs) × (v / 16 ^ k ≡ n)
+hex_told : (k n : ℕ) (xs : List ℕ) (v : ℕ) → hex_from k n xs ≡ Some v → (xs ≡ hex_in k v ++ drop k xs) × (v / 16 ^ k ≡ n)
 unfolding hex_from hex_in
-hex_told zero n xs v e = let same : n ≡ v = cc in (refl, div-one v ∙ sym same)
-hex_told (suc k) n [] v e = no_units v e
+hex_told zero n xs v e = (refl, div-one v ∙ sym (some_is n v e))
+hex_told (suc k) n [] v e = absurd (none-some v e)
 hex_told (suc k) n (x ∷ xs) v e =
     ⊎_elim
     (λ t. hex_first k n x xs v (ltb-true (digit_of x) 16 t.0) (hex_told k (n * 16 + digit_of x) xs v t.1))
-    (λ t. no_units v t.1)
-    (chosen (ltb (digit_of x) 16) (hex_from k (n * 16 + digit_of x) xs) NoUnits (Units v) e)
+    (λ t. absurd (none-some v t.1))
+    (chosen (ltb (digit_of x) 16) (hex_from k (n * 16 + digit_of x) xs) None (Some v) e)
 
-hex_text : (k n v : ℕ) (ys : List ℕ) → v / 16 ^ k ≡ n → hex_from k n (hex_in k v ++ ys) ≡ Units v
+hex_text : (k n v : ℕ) (ys : List ℕ) → v / 16 ^ k ≡ n → hex_from k n (hex_in k v ++ ys) ≡ Some v
 unfolding hex_from
-hex_text zero n v ys e = ap Units (sym e ∙ div-one v)
+hex_text zero n v ys e = ap Some (sym e ∙ div-one v)
 hex_text (suc k) n v ys e =
     let d : v / 16 ^ k % 16 < 16 = omega arith in
     let up : v / 16 ^ k / 16 ≡ n = sym (above k v) ∙ e in
@@ -106,32 +94,29 @@ all_three true true false e = (refl, refl, e)
 all_three true false c e = (refl, e, absurd (omega (arith, ap {B = ℕ} (λ (t : Bool). cond t 1 0) e)))
 all_three false b c e = (e, absurd (omega (arith, ap {B = ℕ} (λ (t : Bool). cond t 1 0) e)), absurd (omega (arith, ap {B = ℕ} (λ (t : Bool). cond t 1 0) e)))
 
-no_verb : {A : Type 0} (w : Verb) → NoVerb ≡ IsVerb w → A
-no_verb w e = absurd (let z : ◌≡◌ {A = ℕ} 0 1 = cc in omega arith)
-
 -- a list spells a verb in range
 abbrev pub Spells : List ℕ → Verb → Type 0
 Spells l w = (l ≡ spell_verb w) × VerbInRange w
 
 -- the verb that a list was read as
-as_read : (l : List ℕ) (u w : Verb) → IsVerb u ≡ IsVerb w → Spells l u → Spells l w
-as_read l u w e s = let same : u ≡ w = cc in subst (Spells l) same s
+as_read : (l : List ℕ) (u w : Verb) → Some u ≡ Some w → Spells l u → Spells l w
+as_read l u w e s = subst (Spells l) (some_is u w e) s
 
-bare_told : (a : ℕ) (w : Verb) → bare_of a ≡ IsVerb w → Spells (a ∷ []) w
+bare_told : (a : ℕ) (w : Verb) → bare_of a ≡ Some w → Spells (a ∷ []) w
 unfolding bare_of
 bare_told a w e =
     ⊎_elim
     (λ t. as_read (a ∷ []) Visit w t.1 (ap (λ (x : ℕ). x ∷ []) (eqb-true a 118 t.0), omega arith))
     (λ t.
-    ⊎_elim (λ u. as_read (a ∷ []) Deadline w u.1 (ap (λ (x : ℕ). x ∷ []) (eqb-true a 100 u.0), omega arith)) (λ u. no_verb w u.1)
-    (chosen (eqb a 100) (IsVerb Deadline) NoVerb (IsVerb w) t.1))
-    (chosen (eqb a 118) (IsVerb Visit) (cond (eqb a 100) (IsVerb Deadline) NoVerb) (IsVerb w) e)
+    ⊎_elim (λ u. as_read (a ∷ []) Deadline w u.1 (ap (λ (x : ℕ). x ∷ []) (eqb-true a 100 u.0), omega arith)) (λ u. absurd (none-some w u.1))
+    (chosen (eqb a 100) (Some Deadline) None (Some w) t.1))
+    (chosen (eqb a 118) (Some Visit) (cond (eqb a 100) (Some Deadline) None) (Some w) e)
 
 -- three bytes that spell a verb with one operand
 spelt_three : (a b c v g : ℕ) → a ≡ v → b ≡ 9 → g ≡ c → a ∷ b ∷ c ∷ [] ≡ v ∷ 9 ∷ g ∷ []
 spelt_three a b c v g p q r = cc
 
-single_told : (a b c : ℕ) (w : Verb) → single_of a b c ≡ IsVerb w → Spells (a ∷ b ∷ c ∷ []) w
+single_told : (a b c : ℕ) (w : Verb) → single_of a b c ≡ Some w → Spells (a ∷ b ∷ c ∷ []) w
 unfolding single_of
 single_told a b c w e =
     ⊎_elim
@@ -145,11 +130,11 @@ single_told a b c w e =
     let s = all_three (eqb a 103) (eqb b 9) (ltb (digit_of c) 2) u.0 in
     as_read (a ∷ b ∷ c ∷ []) (Gate (eqb (digit_of c) 1)) w u.1
     (spelt_three a b c 103 (bit_glyph (eqb (digit_of c) 1)) (eqb-true a 103 s.0) (eqb-true b 9 s.1) (bit_glyph_lem c (ltb-true (digit_of c) 2 s.2)), omega arith))
-    (λ u. no_verb w u.1)
-    (chosen (eqb a 103 && eqb b 9 && ltb (digit_of c) 2) (IsVerb (Gate (eqb (digit_of c) 1))) NoVerb (IsVerb w) t.1))
-    (chosen (eqb a 114 && eqb b 9 && ltb (digit_of c) 8) (IsVerb (Read (digit_of c))) (cond (eqb a 103 && eqb b 9 && ltb (digit_of c) 2) (IsVerb (Gate (eqb (digit_of c) 1))) NoVerb) (IsVerb w) e)
+    (λ u. absurd (none-some w u.1))
+    (chosen (eqb a 103 && eqb b 9 && ltb (digit_of c) 2) (Some (Gate (eqb (digit_of c) 1))) None (Some w) t.1))
+    (chosen (eqb a 114 && eqb b 9 && ltb (digit_of c) 8) (Some (Read (digit_of c))) (cond (eqb a 103 && eqb b 9 && ltb (digit_of c) 2) (Some (Gate (eqb (digit_of c) 1))) None) (Some w) e)
 
-five_told : (a b c d f : ℕ) (w : Verb) → five_of (a ∷ b ∷ c ∷ d ∷ f ∷ []) ≡ IsVerb w → Spells (a ∷ b ∷ c ∷ d ∷ f ∷ []) w
+five_told : (a b c d f : ℕ) (w : Verb) → five_of (a ∷ b ∷ c ∷ d ∷ f ∷ []) ≡ Some w → Spells (a ∷ b ∷ c ∷ d ∷ f ∷ []) w
 unfolding five_of pair_of
 five_told a b c d f w e =
     ⊎_elim
@@ -163,15 +148,15 @@ five_told a b c d f w e =
           (bit_glyph_lem c (ltb-true (digit_of c) 2 r.0)) (bit_glyph_lem f (ltb-true (digit_of f) 2 r.1)),
       omega arith,
     ))
-    (λ u. no_verb w u.1)
-    (chosen (ltb (digit_of c) 2 && ltb (digit_of f) 2) (IsVerb (Pins (eqb (digit_of c) 1) (eqb (digit_of f) 1))) NoVerb (IsVerb w) t.1))
-    (λ t. no_verb w t.1)
-    (chosen (eqb a 112 && eqb b 9 && eqb d 9) (pair_of c f) NoVerb (IsVerb w) e)
+    (λ u. absurd (none-some w u.1))
+    (chosen (ltb (digit_of c) 2 && ltb (digit_of f) 2) (Some (Pins (eqb (digit_of c) 1) (eqb (digit_of f) 1))) None (Some w) t.1))
+    (λ t. absurd (none-some w t.1))
+    (chosen (eqb a 112 && eqb b 9 && eqb d 9) (pair_of c f) None (Some w) e)
   where
     spelt : (a b c d f g h : ℕ) → a ≡ 112 → b ≡ 9 → d ≡ 9 → g ≡ c → h ≡ f → a ∷ b ∷ c ∷ d ∷ f ∷ [] ≡ 112 ∷ 9 ∷ g ∷ 9 ∷ h ∷ []
     spelt a b c d f g h p q r s t = cc
 
-written_told : (c f g : ℕ) (w : Verb) → written_of c f g ≡ IsVerb w → Spells (119 ∷ 9 ∷ c ∷ 9 ∷ f ∷ g ∷ []) w
+written_told : (c f g : ℕ) (w : Verb) → written_of c f g ≡ Some w → Spells (119 ∷ 9 ∷ c ∷ 9 ∷ f ∷ g ∷ []) w
 unfolding written_of
 written_told c f g w e =
     ⊎_elim
@@ -180,12 +165,12 @@ written_told c f g w e =
     (λ u.
     ⊎_elim
     (λ v. found (ltb-true (digit_of c) 8 t.0) (ltb-true (digit_of f) 16 u.0) (ltb-true (digit_of g) 16 v.0) v.1)
-    (λ v. no_verb w v.1)
-    (chosen (ltb (digit_of g) 16) (IsVerb (Write (digit_of c) (digit_of f * 16 + digit_of g))) NoVerb (IsVerb w) u.1))
-    (λ u. no_verb w u.1)
-    (chosen (ltb (digit_of f) 16) (cond (ltb (digit_of g) 16) (IsVerb (Write (digit_of c) (digit_of f * 16 + digit_of g))) NoVerb) NoVerb (IsVerb w) t.1))
-    (λ t. no_verb w t.1)
-    (chosen (ltb (digit_of c) 8) (cond (ltb (digit_of f) 16) (cond (ltb (digit_of g) 16) (IsVerb (Write (digit_of c) (digit_of f * 16 + digit_of g))) NoVerb) NoVerb) NoVerb (IsVerb w) e)
+    (λ v. absurd (none-some w v.1))
+    (chosen (ltb (digit_of g) 16) (Some (Write (digit_of c) (digit_of f * 16 + digit_of g))) None (Some w) u.1))
+    (λ u. absurd (none-some w u.1))
+    (chosen (ltb (digit_of f) 16) (cond (ltb (digit_of g) 16) (Some (Write (digit_of c) (digit_of f * 16 + digit_of g))) None) None (Some w) t.1))
+    (λ t. absurd (none-some w t.1))
+    (chosen (ltb (digit_of c) 8) (cond (ltb (digit_of f) 16) (cond (ltb (digit_of g) 16) (Some (Write (digit_of c) (digit_of f * 16 + digit_of g))) None) None) None (Some w) e)
   where
     high : (h l : ℕ) → h < 16 → l < 16 → (h * 16 + l) / 16 % 16 ≡ h
     high h l p q = omega arith
@@ -193,7 +178,7 @@ written_told c f g w e =
     low : (h l : ℕ) → h < 16 → l < 16 → (h * 16 + l) % 16 ≡ l
     low h l p q = omega arith
 
-    found : digit_of c < 8 → digit_of f < 16 → digit_of g < 16 → IsVerb (Write (digit_of c) (digit_of f * 16 + digit_of g)) ≡ IsVerb w → Spells (119 ∷ 9 ∷ c ∷ 9 ∷ f ∷ g ∷ []) w
+    found : digit_of c < 8 → digit_of f < 16 → digit_of g < 16 → Some (Write (digit_of c) (digit_of f * 16 + digit_of g)) ≡ Some w → Spells (119 ∷ 9 ∷ c ∷ 9 ∷ f ∷ g ∷ []) w
     found p q r e = as_read (119 ∷ 9 ∷ c ∷ 9 ∷ f ∷ g ∷ []) (Write (digit_of c) (digit_of f * 16 + digit_of g)) w e (
       ap (λ (y : ℕ). 119 ∷ 9 ∷ y ∷ 9 ∷ f ∷ g ∷ []) (sym (glyph_digit c (omega arith)))
           ∙ ap (λ (l : List ℕ). 119 ∷ 9 ∷ glyph (digit_of c) ∷ 9 ∷ l) (sym (
@@ -205,40 +190,40 @@ written_told c f g w e =
       (p, omega arith),
     )
 
-six_told : (a b c d f g : ℕ) (w : Verb) → six_of (a ∷ b ∷ c ∷ d ∷ f ∷ g ∷ []) ≡ IsVerb w → Spells (a ∷ b ∷ c ∷ d ∷ f ∷ g ∷ []) w
+six_told : (a b c d f g : ℕ) (w : Verb) → six_of (a ∷ b ∷ c ∷ d ∷ f ∷ g ∷ []) ≡ Some w → Spells (a ∷ b ∷ c ∷ d ∷ f ∷ g ∷ []) w
 unfolding six_of
 six_told a b c d f g w e =
     ⊎_elim
     (λ t.
     let s = all_three (eqb a 119) (eqb b 9) (eqb d 9) t.0 in
     subst (λ (l : List ℕ). Spells l w) (sym (spelt a b d (eqb-true a 119 s.0) (eqb-true b 9 s.1) (eqb-true d 9 s.2))) (written_told c f g w t.1))
-    (λ t. no_verb w t.1)
-    (chosen (eqb a 119 && eqb b 9 && eqb d 9) (written_of c f g) NoVerb (IsVerb w) e)
+    (λ t. absurd (none-some w t.1))
+    (chosen (eqb a 119 && eqb b 9 && eqb d 9) (written_of c f g) None (Some w) e)
   where
     spelt : (a b d : ℕ) → a ≡ 119 → b ≡ 9 → d ≡ 9 → a ∷ b ∷ c ∷ d ∷ f ∷ g ∷ [] ≡ 119 ∷ 9 ∷ c ∷ 9 ∷ f ∷ g ∷ []
     spelt a b d p q r = cc
 
-too_long : (v : List ℕ) → 7 ≤ length v → verb_of v ≡ NoVerb
+too_long : (v : List ℕ) → 7 ≤ length v → verb_of v ≡ None
 unfolding verb_of
 too_long v h =
     simp (ne_eqb (length v) 6 (λ z. omega arith), ne_eqb (length v) 1 (λ z. omega arith), ne_eqb (length v) 3 (λ z. omega arith), ne_eqb (length v) 5 (λ z. omega arith))
 
-pub verb_told : (l : List ℕ) (w : Verb) → verb_of l ≡ IsVerb w → Spells l w
+pub verb_told : (l : List ℕ) (w : Verb) → verb_of l ≡ Some w → Spells l w
 unfolding verb_of
-verb_told [] w e = no_verb w e
+verb_told [] w e = absurd (none-some w e)
 verb_told (a ∷ []) w e = bare_told a w e
-verb_told (a ∷ b ∷ []) w e = no_verb w e
+verb_told (a ∷ b ∷ []) w e = absurd (none-some w e)
 verb_told (a ∷ b ∷ c ∷ []) w e = single_told a b c w e
-verb_told (a ∷ b ∷ c ∷ d ∷ []) w e = no_verb w e
+verb_told (a ∷ b ∷ c ∷ d ∷ []) w e = absurd (none-some w e)
 verb_told (a ∷ b ∷ c ∷ d ∷ f ∷ []) w e = five_told a b c d f w e
 verb_told (a ∷ b ∷ c ∷ d ∷ f ∷ g ∷ []) w e = six_told a b c d f g w e
-verb_told (a ∷ b ∷ c ∷ d ∷ f ∷ g ∷ h ∷ l) w e = no_verb w (sym (too_long (a ∷ b ∷ c ∷ d ∷ f ∷ g ∷ h ∷ l) (omega arith)) ∙ e)
+verb_told (a ∷ b ∷ c ∷ d ∷ f ∷ g ∷ h ∷ l) w e = absurd (none-some w (sym (too_long (a ∷ b ∷ c ∷ d ∷ f ∷ g ∷ h ∷ l) (omega arith)) ∙ e))
 
-read_text : (a : ℕ) → a < 8 → verb_of (spell_verb (Read a)) ≡ IsVerb (Read a)
+read_text : (a : ℕ) → a < 8 → verb_of (spell_verb (Read a)) ≡ Some (Read a)
 unfolding verb_of single_of
 read_text a h = simp (digit_glyph a (omega arith), lt-ltb a 8 h)
 
-write_text : (a b : ℕ) → a < 8 → b < 256 → verb_of (spell_verb (Write a b)) ≡ IsVerb (Write a b)
+write_text : (a b : ℕ) → a < 8 → b < 256 → verb_of (spell_verb (Write a b)) ≡ Some (Write a b)
 unfolding verb_of six_of written_of
 write_text a b h l =
     let p : b / 16 % 16 < 16 = omega arith in
@@ -247,7 +232,7 @@ write_text a b h l =
     ap (λ (x : List ℕ). verb_of (119 ∷ 9 ∷ glyph a ∷ 9 ∷ x)) (hex_two b)
     ∙ simp (digit_glyph a (omega arith), digit_glyph (b / 16 % 16) p, digit_glyph (b % 16) q, lt-ltb a 8 h, lt-ltb (b / 16 % 16) 16 p, lt-ltb (b % 16) 16 q, e)
 
-pub verb_text : (w : Verb) → VerbInRange w → verb_of (spell_verb w) ≡ IsVerb w
+pub verb_text : (w : Verb) → VerbInRange w → verb_of (spell_verb w) ≡ Some w
 unfolding verb_of bare_of single_of five_of pair_of six_of written_of digit_of
 verb_text (Read a) h = read_text a h
 verb_text (Write a b) h = write_text a b h.0 h.1
@@ -270,46 +255,39 @@ verb_length Deadline = omega arith
 
 -- ## Times
 
-no_time : {A : Type 0} (t : Time) (m : ℕ) → NoTime ≡ IsTime t m → A
-no_time t m e = absurd (let z : ◌≡◌ {A = ℕ} 0 1 = cc in omega arith)
-
-units_some : (u : MaybeUnits) (f : ℕ → MaybeTime) (t : Time) (m : ℕ) → with_fraction u f ≡ IsTime t m → (n : ℕ) × (u ≡ Units n) × (f n ≡ IsTime t m)
-units_some NoUnits f t m e = no_time t m e
-units_some (Units n) f t m e = (n, refl, e)
-
-seconds_some : (s : Scanned) (f : ℕ → ℕ → MaybeTime) (t : Time) (m : ℕ) → with_seconds s f ≡ IsTime t m → (n : ℕ) × (k : ℕ) × (s ≡ Seconds n k) × (f n k ≡ IsTime t m)
-seconds_some NoSeconds f t m e = no_time t m e
-seconds_some (Seconds n k) f t m e = (n, k, refl, e)
+pub map_some : {A B : Type 0} (f : A → B) (o : Option A) (y : B) → option_map f o ≡ Some y → (x : A) × (o ≡ Some x) × (f x ≡ y)
+map_some f None y e = absurd (none-some y e)
+map_some f (Some x) y e = (x, refl, some_is (f x) y e)
 
 -- what a time after its seconds says
 abbrev Fractioned : ℕ → ℕ → List ℕ → Time → ℕ → Type 0
 Fractioned n p l t m = (n ≡ t.seconds) × (m ≡ p + 17) × (l ≡ hex_in 16 t.fraction ++ 9 ∷ drop 17 l) × (t.fraction < 2 ^ 64) × (17 ≤ length l)
 
-fraction_told : (n p : ℕ) (l : List ℕ) (t : Time) (m : ℕ) → fraction_at n p l ≡ IsTime t m → Fractioned n p l t m
+fraction_told : (n p : ℕ) (l : List ℕ) (t : Time) (m : ℕ) → fraction_at n p l ≡ Some (t, m) → Fractioned n p l t m
 unfolding fraction_at fraction_of
 fraction_told n p l t m e =
     ⊎_elim
-    (λ a. no_time t m a.1)
+    (λ a. absurd (none-some (t, m) a.1))
     (λ a.
     ⊎_elim
-    (λ b. no_time t m b.1)
+    (λ b. absurd (none-some (t, m) b.1))
     (λ b.
-    let f = units_some (hex_from 16 0 l) whole t m b.1 in
+    let f = map_some whole (hex_from 16 0 l) (t, m) b.1 in
     found f.0 (ltb-false (length l) 17 a.0) (eqb-true (get_or l 16 0) 9 (affirmed (eqb (get_or l 16 0) 9) b.0)) (hex_told 16 0 l f.0 f.1) f.2)
-    (chosen (not (eqb (get_or l 16 0) 9)) NoTime (with_fraction (hex_from 16 0 l) whole) (IsTime t m) a.1))
-    (chosen (ltb (length l) 17) NoTime (cond (not (eqb (get_or l 16 0) 9)) NoTime (with_fraction (hex_from 16 0 l) whole)) (IsTime t m) e)
+    (chosen (not (eqb (get_or l 16 0) 9)) None (option_map whole (hex_from 16 0 l)) (Some (t, m)) a.1))
+    (chosen (ltb (length l) 17) None (cond (not (eqb (get_or l 16 0) 9)) None (option_map whole (hex_from 16 0 l))) (Some (t, m)) e)
   where
-    whole : ℕ → MaybeTime
-    whole f = IsTime (record { seconds = n; fraction = f }) (p + 17)
+    whole : ℕ → Time × ℕ
+    whole f = (record { seconds = n; fraction = f }, p + 17)
 
     affirmed : (b : Bool) → not b ≡ false → b ≡ true
     affirmed true h = refl
     affirmed false h = sym h
 
-    found : (f : ℕ) → 17 ≤ length l → get_or l 16 0 ≡ 9 → ((l ≡ hex_in 16 f ++ drop 16 l) × (f / 16 ^ 16 ≡ 0)) → whole f ≡ IsTime t m → Fractioned n p l t m
+    found : (f : ℕ) → 17 ≤ length l → get_or l 16 0 ≡ 9 → ((l ≡ hex_in 16 f ++ drop 16 l) × (f / 16 ^ 16 ≡ 0)) → whole f ≡ (t, m) → Fractioned n p l t m
     found f long nine hex e =
-        let same : record { seconds = n; fraction = f } ≡ t = cc in
-        let place : p + 17 ≡ m = cc in
+        let same : record { seconds = n; fraction = f } ≡ t = ap (λ (x : Time × ℕ). x.0) e in
+        let place : p + 17 ≡ m = ap (λ (x : Time × ℕ). x.1) e in
         subst (λ (x : Time). Fractioned n p l x m) same (
           refl,
           sym place,
@@ -318,7 +296,7 @@ fraction_told n p l t m e =
           long,
         )
 
-fraction_text : (n p f : ℕ) (ys : List ℕ) → f < 2 ^ 64 → fraction_at n p (hex_in 16 f ++ 9 ∷ ys) ≡ IsTime (record { seconds = n; fraction = f }) (p + 17)
+fraction_text : (n p f : ℕ) (ys : List ℕ) → f < 2 ^ 64 → fraction_at n p (hex_in 16 f ++ 9 ∷ ys) ≡ Some (record { seconds = n; fraction = f }, p + 17)
 unfolding fraction_at fraction_of
 fraction_text n p f ys r =
     let h : length (hex_in 16 f) ≡ 16 = hex_length 16 f in
@@ -344,31 +322,31 @@ pub record Told (l : List ℕ) (t : Time) (m : ℕ) : Type 0 where
   pub within : m ≤ length l
   pub short : length l ≤ 64
 
-pub timed_told : (l : List ℕ) (t : Time) (m : ℕ) → timed_of l ≡ IsTime t m → Told l t m
+pub timed_told : (l : List ℕ) (t : Time) (m : ℕ) → timed_of l ≡ Some (t, m) → Told l t m
 unfolding timed_of
 timed_told l t m e =
     ⊎_elim
-    (λ a. no_time t m a.1)
+    (λ a. absurd (none-some (t, m) a.1))
     (λ a.
-    let s = seconds_some (seconds_of l) (λ n k. fraction_at n k (drop k l)) t m a.1 in
-    let told = seconds_told l s.0 s.1 s.2 in
-    let rest = fraction_told s.0 s.1 (drop s.1 l) t m s.3 in
+    option_and_then_some (λ p. fraction_at p.0 p.1 (drop p.1 l)) (seconds_of l) (t, m) a.1 (λ p seconds fraction.
+    let told = seconds_told l p.0 p.1 seconds in
+    let rest = fraction_told p.0 p.1 (drop p.1 l) t m fraction in
     record {
       text = told.1
-          ∙ ap (λ (n : ℕ). decimal_in 20 n ++ 9 ∷ drop s.1 l) rest.0
-          ∙ ap (λ (x : List ℕ). decimal_in 20 t.seconds ++ 9 ∷ x) (rest.2 ∙ ap (λ (x : List ℕ). hex_in 16 t.fraction ++ 9 ∷ x) (further s.1 rest.1))
+          ∙ ap (λ (n : ℕ). decimal_in 20 n ++ 9 ∷ drop p.1 l) rest.0
+          ∙ ap (λ (x : List ℕ). decimal_in 20 t.seconds ++ 9 ∷ x) (rest.2 ∙ ap (λ (x : List ℕ). hex_in 16 t.fraction ++ 9 ∷ x) (further p.1 rest.1))
           ∙ sym (time_then t (drop m l));
       range = record { seconds = subst (λ (n : ℕ). n < 2 ^ 64) rest.0 told.0; fraction = rest.3 };
-      within = omega (arith, rest.1, rest.4, length-drop s.1 l);
+      within = omega (arith, rest.1, rest.4, length-drop p.1 l);
       short = ltb-false 64 (length l) a.0;
-    })
-    (chosen (ltb 64 (length l)) NoTime (with_seconds (seconds_of l) (λ n k. fraction_at n k (drop k l))) (IsTime t m) e)
+    }))
+    (chosen (ltb 64 (length l)) None (option_and_then (λ p. fraction_at p.0 p.1 (drop p.1 l)) (seconds_of l)) (Some (t, m)) e)
   where
     further : (k : ℕ) → m ≡ k + 17 → drop 17 (drop k l) ≡ drop m l
     further k e = drop-drop 17 k l ∙ ap (λ (n : ℕ). drop n l) (sym e)
 
 -- the bytes of a time are read as that time, and their end is its place
-pub timed_text : (t : Time) → TimeInRange t → (ys : List ℕ) → length (time_text t ++ ys) ≤ 64 → timed_of (time_text t ++ ys) ≡ IsTime t (length (time_text t))
+pub timed_text : (t : Time) → TimeInRange t → (ys : List ℕ) → length (time_text t ++ ys) ≤ 64 → timed_of (time_text t ++ ys) ≡ Some (t, length (time_text t))
 unfolding timed_of
 timed_text t r ys short =
     let d = decimal_in 20 t.seconds in
@@ -378,49 +356,34 @@ timed_text t r ys short =
     let one : length (time_text t) ≡ length d + suc (length (f ++ 9 ∷ [])) = length-append d (9 ∷ (f ++ 9 ∷ [])) in
     let two : length (f ++ 9 ∷ []) ≡ length f + 1 = length-append f (9 ∷ []) in
     simp (le-ltb 64 (length (time_text t ++ ys)) short)
-    (ap (λ (l : List ℕ). with_seconds (seconds_of l) (λ n k. fraction_at n k (drop k l))) (time_then t ys)
+    (ap (λ (l : List ℕ). option_and_then (λ p. fraction_at p.0 p.1 (drop p.1 l)) (seconds_of l)) (time_then t ys)
     ∙ simp (seconds_text t.seconds rest r.seconds, drop-append-add d (9 ∷ rest) 1)
-    (fraction_text t.seconds (length d + 1) t.fraction ys r.fraction ∙ ap (IsTime t) (sum (length d) (length (f ++ 9 ∷ [])) (length (time_text t)) one (two ∙ ap (λ (n : ℕ). n + 1) h))))
+    (fraction_text t.seconds (length d + 1) t.fraction ys r.fraction ∙ ap (λ (p : ℕ). Some (t, p)) (sum (length d) (length (f ++ 9 ∷ [])) (length (time_text t)) one (two ∙ ap (λ (n : ℕ). n + 1) h))))
   where
     sum : (d f n : ℕ) → n ≡ d + suc f → f ≡ 16 + 1 → d + 1 + 17 ≡ n
     sum d f n e g = omega arith
 
 -- ## Lines
 
-no_call : {A : Type 0} (c : Call) → Malformed ≡ Calls c → A
-no_call c e = absurd (let z : ◌≡◌ {A = ℕ} 0 1 = cc in omega arith)
-
-verb_some : (m : MaybeVerb) (f : Verb → Parsed) (c : Call) → with_verb m f ≡ Calls c → (w : Verb) × (m ≡ IsVerb w) × (f w ≡ Calls c)
-verb_some NoVerb f c e = no_call c e
-verb_some (IsVerb w) f c e = (w, refl, e)
-
-time_some : (m : MaybeTime) (f : Time → ℕ → Parsed) (c : Call) → with_time m f ≡ Calls c → (t : Time) × (k : ℕ) × (m ≡ IsTime t k) × (f t k ≡ Calls c)
-time_some NoTime f c e = no_call c e
-time_some (IsTime t k) f c e = (t, k, refl, e)
-
 -- what a line is read as spells it
-pub read_is_spelled : (l : List ℕ) (c : Call) → call_of l ≡ Calls c → (l ≡ spell c) × InRange c
+pub read_is_spelled : (l : List ℕ) (c : Call) → call_of l ≡ Some c → (l ≡ spell c) × InRange c
 unfolding call_of
 read_is_spelled l c e =
-    let s = time_some (timed_of l) (λ t m. with_verb (verb_of (drop m l)) (whole t)) c e in
-    let w = verb_some (verb_of (drop s.1 l)) (whole s.0) c s.3 in
-    let told = timed_told l s.0 s.1 s.2 in
-    let spelt = verb_told (drop s.1 l) w.0 w.1 in
-    let same : record { time = s.0; verb = w.0 } ≡ c = same_call (record { time = s.0; verb = w.0 }) c w.2 in
-    subst (λ (x : Call). (l ≡ spell x) × InRange x) same
-    (told.text ∙ ap (λ (x : List ℕ). time_text s.0 ++ x) spelt.0, record { time = told.range; verb = spelt.1 })
+    option_and_then_some (λ p. option_map (whole p.0) (verb_of (drop p.1 l))) (timed_of l) c e (λ p timed called.
+    let w = map_some (whole p.0) (verb_of (drop p.1 l)) c called in
+    let told = timed_told l p.0 p.1 timed in
+    let spelt = verb_told (drop p.1 l) w.0 w.1 in
+    subst (λ (x : Call). (l ≡ spell x) × InRange x) w.2
+    (told.text ∙ ap (λ (x : List ℕ). time_text p.0 ++ x) spelt.0, record { time = told.range; verb = spelt.1 }))
   where
-    whole : Time → Verb → Parsed
-    whole t v = Calls (record { time = t; verb = v })
-
-    same_call : (a b : Call) → Calls a ≡ Calls b → a ≡ b
-    same_call a b e = cc
+    whole : Time → Verb → Call
+    whole t v = record { time = t; verb = v }
 
 -- a call that is spelled is read, and as that call
-pub spelled_is_read : (c : Call) → InRange c → call_of (spell c) ≡ Calls c
+pub spelled_is_read : (c : Call) → InRange c → call_of (spell c) ≡ Some c
 unfolding call_of
 spelled_is_read c r =
     let x = time_text c.time in
     let v = spell_verb c.verb in
     let short : length (x ++ v) ≤ 64 = omega (arith, length-append x v, time_length c.time, verb_length c.verb) in
-    simp (timed_text c.time r.time v short) (ap (λ (l : List ℕ). with_verb (verb_of l) (λ w. Calls (record { time = c.time; verb = w }))) (drop_at x v (length x) refl) ∙ simp (verb_text c.verb r.verb))
+    simp (timed_text c.time r.time v short) (ap (λ (l : List ℕ). option_map (λ w. record { time = c.time; verb = w }) (verb_of l)) (drop_at x v (length x) refl) ∙ simp (verb_text c.verb r.verb))

@@ -5,6 +5,7 @@
 ghost use Rattle.std.specs.Prelude.{◌≡◌};
 ghost use Rattle.lines.specs.Lines.{may_follow};
 
+pub mod each;
 pub mod ends;
 pub mod reading;
 
@@ -27,28 +28,9 @@ pub struct Call {
     pub verb: Verb,
 }
 
-// What a line says.
-#[derive(Clone, Copy)]
-pub enum Parsed {
-    Malformed,
-    Calls(Call),
-}
-
-// The time of the last line that wasn't refused 4 or 5.
-#[derive(Clone, Copy)]
-pub enum Last {
-    First,
-    After(Time),
-}
-
-impl Last {
-    // Whether a time may follow.
-    pub fn admits(self, time: Time) -> bool
-        ensures { result ≡ may_follow self time }
-    {
-        match self {
-            Last::First => true,
-            Last::After(last) => !time.before(last),
-        }
-    }
+// Whether a time may follow that of the last line that wasn't refused 4 or 5.
+pub fn may_follow(last: Option<Time>, time: Time) -> bool
+    ensures { result ≡ may_follow last time }
+{
+    last.is_none_or(|last| !time.before(last))
 }

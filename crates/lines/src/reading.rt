@@ -1,39 +1,15 @@
 // A line of a trace as the call that it means.
-ghost use Rattle.std.specs.Prelude.{◌≡◌, ◌+◌, ◌^◌, ◌≤◌, ◌<◌, length};
-ghost use Rattle.lines.specs.Reading.{digit_of, closed_by, seconds_of, fraction_of, bare_of, single_of, pair_of, written_of, five_of, six_of, verb_of, fraction_at, timed_of, call_of};
+ghost use Rattle.std.specs.Prelude.{◌≡◌, ◌+◌, ◌^◌, ◌≤◌, ◌<◌, min, length, IfSome};
+ghost use Rattle.lines.specs.Reading.{digit_of, digit_in, closed_by, seconds_of, fraction_of, bare_of, single_of, pair_of, written_of, verb_of, fraction_at, timed_of, call_of};
 
-use super::{Call, Parsed, Verb};
+use super::{Call, Verb};
 use time::Time;
 
-// A time and the place after its second tab.
-#[derive(Clone, Copy)]
-pub enum MaybeTime {
-    NoTime,
-    IsTime(Time, usize),
-}
-
-// Seconds and the place after their tab.
-#[derive(Clone, Copy)]
-pub enum Scanned {
-    NoSeconds,
-    Seconds(u64, usize),
-}
-
-#[derive(Clone, Copy)]
-pub enum MaybeUnits {
-    NoUnits,
-    Units(u64),
-}
-
-#[derive(Clone, Copy)]
-pub enum MaybeVerb {
-    NoVerb,
-    IsVerb(Verb),
-}
-
-// The value of a lower-case hexadecimal digit, 16 for another byte.
-pub fn digit(b: u8) -> u8
-    ensures { (result ≡ digit_of b) × (result ≤ 16) }
+// The value of a lower-case hexadecimal digit, 16 for another byte. No Option, and no `match`: `fraction` reads 16 of them without a branch, in
+// 15 ns; with `digit` in its place it took 20 ns, with `?` after each 73, and with a `match` here a line took three times as long.
+fn value(b: u8) -> u8
+    ensures value { result ≡ digit_of b }
+    ensures bound { result ≤ 16 }
 {
     let decimal = (48 <= b) & (b < 58);
     if decimal {
@@ -43,215 +19,158 @@ pub fn digit(b: u8) -> u8
     if letter { b - 87 } else { 16 }
 }
 
-// What the first byte that is no decimal digit makes of the seconds before it.
-fn closed(b: u8, n: u64, at: usize) -> Scanned
-    requires { at + 1 < 2 ^ 64 }
-    ensures { result ≡ closed_by b n at }
+// The value of such a digit where it is below a radix.
+#[tactic(auto, unfolding(crate::specs::Reading::digit_in))]
+pub fn digit(b: u8, radix: u8) -> Option<u8>
+    ensures value { result ≡ digit_in radix b }
+    ensures bound { IfSome result (λ d. d < min radix 16) }
 {
-    let tab = (b == b'\t') & (at != 0);
-    if tab {
-        Scanned::Seconds(n, at + 1)
+    let value = value(b);
+    if value < radix.min(16) {
+        Some(value)
     } else {
-        Scanned::NoSeconds
+        None
     }
 }
 
-// The seconds at the start of a line, up to their tab.
-fn seconds(line: &[u8]) -> Scanned
-    ensures { result ≡ seconds_of line.now }
+// What the first byte that is no decimal digit makes of the seconds before it: their value, and the place after their tab.
+#[tactic(auto, unfolding(crate::specs::Reading::closed_by))]
+fn closed(b: u8, n: u64, at: usize) -> Option<(u64, usize)>
+    requires { at + 1 < 2 ^ 64 }
+    ensures value { result ≡ closed_by b n at }
+    ensures place { IfSome result (λ s. s.1 ≡ at + 1) }
+{
+    let tab = (b == b'\t') & (at != 0);
+    if tab { Some((n, at + 1)) } else { None }
+}
+
+// The seconds at the start of a line, and the place after their tab.
+fn seconds(line: &[u8]) -> Option<(u64, usize)>
+    ensures value { result ≡ seconds_of line.now }
+    ensures within { IfSome result (λ s. s.1 ≤ length line.now) }
 {
     let mut n = 0u64;
-    let mut i = 0usize;
-    while i < line.len() {
-        let b = line[i];
-        let d = digit(b);
-        if 10 <= d {
+    for (i, &b) in line.iter().enumerate() {
+        let Some(d) = digit(b, 10) else {
             return closed(b, n, i);
-        }
+        };
         let needless = (n == 0) & (i != 0);
         if needless {
-            return Scanned::NoSeconds;
+            return None;
         }
-        let unit = d as u64;
-        if (u64::MAX - unit) / 10 < n {
-            return Scanned::NoSeconds;
-        }
-        n = n * 10 + unit;
-        i += 1;
+        n = n.checked_mul(10)?.checked_add(d as u64)?;
     }
-    Scanned::NoSeconds
+    None
 }
 
 // The fraction in the first 16 bytes.
-fn fraction(rest: &[u8]) -> MaybeUnits
+fn fraction(rest: &[u8]) -> Option<u64>
     requires { 16 ≤ length rest.now }
     ensures { result ≡ fraction_of rest.now }
 {
     let mut n = 0u64;
-    let mut i = 0usize;
     let mut fine = true;
-    while i < 16 {
-        let d = digit(rest[i]);
+    for &b in &rest[..16] {
+        let d = value(b);
         fine = fine & (d < 16);
         n = n * 16 + (d % 16) as u64;
-        i += 1;
     }
-    if fine {
-        MaybeUnits::Units(n)
-    } else {
-        MaybeUnits::NoUnits
-    }
+    if fine { Some(n) } else { None }
 }
 
 // A verb without operands.
 #[tactic(auto, unfolding(crate::specs::Reading::bare_of))]
-fn bare(verb: u8) -> MaybeVerb
+fn bare(verb: u8) -> Option<Verb>
     ensures { result ≡ bare_of verb }
 {
-    let visit = verb == b'v';
-    if visit {
-        return MaybeVerb::IsVerb(Verb::Visit);
+    match verb {
+        b'v' => Some(Verb::Visit),
+        b'd' => Some(Verb::Deadline),
+        _ => None,
     }
-    let deadline = verb == b'd';
-    if deadline {
-        return MaybeVerb::IsVerb(Verb::Deadline);
-    }
-    MaybeVerb::NoVerb
 }
 
 // A verb, a tab and an operand of one byte.
-fn single(verb: u8, tab: u8, operand: u8) -> MaybeVerb
+#[tactic(auto, unfolding(crate::specs::Reading::digit_in, crate::specs::Reading::single_of))]
+fn single(verb: u8, tab: u8, operand: u8) -> Option<Verb>
     ensures { result ≡ single_of verb tab operand }
 {
-    let n = digit(operand);
-    let read = (verb == b'r') & (tab == b'\t') & (n < 8);
-    if read {
-        return MaybeVerb::IsVerb(Verb::Read(n as u16));
+    match (verb, tab) {
+        (b'r', b'\t') => Some(Verb::Read(digit(operand, 8)? as u16)),
+        (b'g', b'\t') => Some(Verb::Gate(digit(operand, 2)? == 1)),
+        _ => None,
     }
-    let gate = (verb == b'g') & (tab == b'\t') & (n < 2);
-    if gate {
-        return MaybeVerb::IsVerb(Verb::Gate(n == 1));
-    }
-    MaybeVerb::NoVerb
 }
 
 // Two levels.
-fn pair(scl: u8, sda: u8) -> MaybeVerb
+#[tactic(auto, unfolding(crate::specs::Reading::digit_in, crate::specs::Reading::pair_of))]
+fn pair(scl: u8, sda: u8) -> Option<Verb>
     ensures { result ≡ pair_of scl sda }
 {
-    let c = digit(scl);
-    let d = digit(sda);
-    let levels = (c < 2) & (d < 2);
-    if levels {
-        MaybeVerb::IsVerb(Verb::Pins(c == 1, d == 1))
-    } else {
-        MaybeVerb::NoVerb
-    }
+    Some(Verb::Pins(digit(scl, 2)? == 1, digit(sda, 2)? == 1))
 }
 
 // An address and a byte's two digits.
-fn written(address: u8, high: u8, low: u8) -> MaybeVerb
+#[tactic(auto, unfolding(crate::specs::Reading::digit_in, crate::specs::Reading::written_of))]
+fn written(address: u8, high: u8, low: u8) -> Option<Verb>
     ensures { result ≡ written_of address high low }
 {
-    let a = digit(address);
-    let h = digit(high);
-    let l = digit(low);
-    if 8 <= a {
-        return MaybeVerb::NoVerb;
-    }
-    if 16 <= h {
-        return MaybeVerb::NoVerb;
-    }
-    if 16 <= l {
-        return MaybeVerb::NoVerb;
-    }
-    MaybeVerb::IsVerb(Verb::Write(a as u16, h * 16 + l))
+    let address = digit(address, 8)?;
+    let high = digit(high, 16)?;
+    let low = digit(low, 16)?;
+    Some(Verb::Write(address as u16, high * 16 + low))
 }
 
-// A verb and two operands, parted by tabs, five bytes long.
-fn five(v: &[u8]) -> MaybeVerb
-    requires { length v.now ≡ 5 }
-    ensures { result ≡ five_of v.now }
-{
-    let parted = (v[0] == b'p') & (v[1] == b'\t') & (v[3] == b'\t');
-    if parted {
-        pair(v[2], v[4])
-    } else {
-        MaybeVerb::NoVerb
-    }
-}
-
-// The same, six bytes long.
-fn six(v: &[u8]) -> MaybeVerb
-    requires { length v.now ≡ 6 }
-    ensures { result ≡ six_of v.now }
-{
-    let parted = (v[0] == b'w') & (v[1] == b'\t') & (v[3] == b'\t');
-    if parted {
-        written(v[2], v[4], v[5])
-    } else {
-        MaybeVerb::NoVerb
-    }
-}
-
-// A verb with its operands.
-pub fn verb(v: &[u8]) -> MaybeVerb
+// A verb with its operands, parted by tabs.
+#[tactic(auto, unfolding(crate::specs::Reading::verb_of, crate::specs::Reading::five_of, crate::specs::Reading::six_of))]
+pub fn verb(v: &[u8]) -> Option<Verb>
     ensures { result ≡ verb_of v.now }
 {
-    if v.len() == 6 {
-        return six(v);
+    match *v {
+        [v] => bare(v),
+        [v, tab, operand] => single(v, tab, operand),
+        [b'p', b'\t', scl, b'\t', sda] => pair(scl, sda),
+        [b'w', b'\t', address, b'\t', high, low] => written(address, high, low),
+        _ => None,
     }
-    if v.len() == 1 {
-        return bare(v[0]);
-    }
-    if v.len() == 3 {
-        return single(v[0], v[1], v[2]);
-    }
-    if v.len() == 5 {
-        return five(v);
-    }
-    MaybeVerb::NoVerb
 }
 
 // What follows the seconds and their tab: a fraction and its tab. The seconds end at that place of the line.
-fn fraction_at(rest: &[u8], seconds: u64, place: usize) -> MaybeTime
+#[tactic(auto, unfolding(crate::specs::Reading::fraction_at))]
+fn fraction_at(rest: &[u8], seconds: u64, place: usize) -> Option<(Time, usize)>
     requires { place ≤ 64 }
-    ensures { result ≡ fraction_at seconds place rest.now }
+    ensures value { result ≡ fraction_at seconds place rest.now }
+    ensures within { IfSome result (λ t. t.1 ≤ place + length rest.now) }
 {
     if rest.len() < 17 {
-        return MaybeTime::NoTime;
+        return None;
     }
     if rest[16] != b'\t' {
-        return MaybeTime::NoTime;
+        return None;
     }
-    let MaybeUnits::Units(fraction) = fraction(rest) else {
-        return MaybeTime::NoTime;
-    };
-    MaybeTime::IsTime(Time { seconds, fraction }, place + 17)
+    let fraction = fraction(rest)?;
+    Some((Time { seconds, fraction }, place + 17))
 }
 
-// The time at the start of a line of at most 64 bytes.
-pub fn timed(line: &[u8]) -> MaybeTime
-    ensures { result ≡ timed_of line.now }
+// The time at the start of a line of at most 64 bytes, and the place after its second tab.
+#[tactic(auto, unfolding(crate::specs::Reading::timed_of))]
+pub fn timed(line: &[u8]) -> Option<(Time, usize)>
+    ensures value { result ≡ timed_of line.now }
+    ensures within { IfSome result (λ t. t.1 ≤ length line.now) }
 {
     if 64 < line.len() {
-        return MaybeTime::NoTime;
+        return None;
     }
-    let Scanned::Seconds(seconds, next) = seconds(line) else {
-        return MaybeTime::NoTime;
-    };
+    let (seconds, next) = seconds(line)?;
     fraction_at(&line[next..], seconds, next)
 }
 
 // The call that a line means.
-pub fn parse(line: &[u8]) -> Parsed
+#[tactic(auto, unfolding(crate::specs::Reading::call_of))]
+pub fn parse(line: &[u8]) -> Option<Call>
     ensures { result ≡ call_of line.now }
 {
-    let MaybeTime::IsTime(time, next) = timed(line) else {
-        return Parsed::Malformed;
-    };
-    let MaybeVerb::IsVerb(verb) = verb(&line[next..]) else {
-        return Parsed::Malformed;
-    };
-    Parsed::Calls(Call { time, verb })
+    let (time, next) = timed(line)?;
+    let verb = verb(&line[next..])?;
+    Some(Call { time, verb })
 }

@@ -1,23 +1,16 @@
 -- Definitions: script lines (document 02, (g)): "a trace line of verb `r`, `w` or `g` with a unit, a digit counted from 0, before the verb". By writing
 -- one, and by reading it from the left; ScriptLaws.antt shows that the two agree, both ways.
-use Rattle.std.specs.Prelude.{ℕ, ◌<◌, Bool, true, false, cond, not, ◌&&◌, List, [], ◌∷◌, ◌++◌, ◌≡◌, ltb, leb, eqb, length, drop, get_or}
+use Rattle.std.specs.Prelude.{ℕ, ◌<◌, Bool, true, false, cond, not, ◌&&◌, List, [], ◌∷◌, ◌++◌, ◌≡◌, ltb, leb, eqb, length, drop, get_or, Option, None, Some, Result, Ok, Err, option_and_then}
 use Rattle.time.specs.declared.Time.{Time}
 use Rattle.lines.specs.declared.Call.{Call}
-use Rattle.lines.specs.declared.Last.{Last}
 use Rattle.lines.specs.declared.Verb.{Verb}
 use Rattle.lines.specs.declared.Verb.TheVariants.{Read, Write, Pins, Gate, Visit, Deadline}
-use Rattle.lines.specs.declared.reading.MaybeTime.{MaybeTime}
-use Rattle.lines.specs.declared.reading.MaybeTime.TheVariants.{NoTime, IsTime}
-use Rattle.lines.specs.declared.reading.MaybeVerb.{MaybeVerb}
-use Rattle.lines.specs.declared.reading.MaybeVerb.TheVariants.{NoVerb, IsVerb}
 use Rattle.lines.specs.Numbers.{glyph}
 use Rattle.lines.specs.Format.{tab, time_text, spell_verb, InRange}
 use Rattle.lines.specs.Lines.{may_follow}
 use Rattle.lines.specs.Reading.{digit_of, timed_of, verb_of}
-use Rattle.script.specs.declared.Judged.{Judged}
-use Rattle.script.specs.declared.Judged.TheVariants as judged
-use Rattle.script.specs.declared.Next.{Next}
-use Rattle.script.specs.declared.Next.TheVariants.{NoLine, Malformed, Calls}
+use Rattle.script.specs.declared.Unplayed.{Unplayed}
+use Rattle.script.specs.declared.Unplayed.TheVariants.{Unread, Early}
 
 -- the verbs of a script
 unfoldable pub is_scripted : Verb → Bool
@@ -41,36 +34,28 @@ pub record LineInRange (u : ℕ) (c : Call) : Type 0 where
 
 -- ## By reading
 
-abbrev pub with_verb : ℕ → Time → MaybeVerb → Next
-with_verb u t NoVerb = Malformed
-with_verb u t (IsVerb v) = cond (is_scripted v) (Calls u (record { time = t; verb = v })) Malformed
-
 -- what follows the time: a unit, a tab, a verb with its operands
-unfoldable pub called_of : Time → List ℕ → Next
+unfoldable pub called_of : Time → List ℕ → Option (ℕ × Call)
 called_of t l =
-    cond (ltb (length l) 2) Malformed
-    (cond (not (ltb (digit_of (get_or l 0 0)) 10 && eqb (get_or l 1 0) 9)) Malformed (with_verb (digit_of (get_or l 0 0)) t (verb_of (drop 2 l))))
-
-abbrev pub with_time : MaybeTime → List ℕ → Next
-with_time NoTime l = Malformed
-with_time (IsTime t m) l = called_of t (drop m l)
+    cond (ltb (length l) 2) None
+    (cond (not (ltb (digit_of (get_or l 0 0)) 10 && eqb (get_or l 1 0) 9)) None
+    (option_and_then (λ v. cond (is_scripted v) (Some (digit_of (get_or l 0 0), record { time = t; verb = v })) None) (verb_of (drop 2 l))))
 
 -- what a line says
-unfoldable pub line_of : List ℕ → Next
-line_of l = with_time (timed_of l) l
+unfoldable pub line_of : List ℕ → Option (ℕ × Call)
+line_of l = option_and_then (λ t. called_of t.0 (drop t.1 l)) (timed_of l)
 
 -- what a script has next
-abbrev pub next_of : List (List ℕ) → Next
-next_of [] = NoLine
-next_of (l ∷ ls) = line_of l
+abbrev pub next_of : List (List ℕ) → Option (Option (ℕ × Call))
+next_of [] = None
+next_of (l ∷ ls) = Some (line_of l)
 
 -- ## What a line is to a bench
 
 -- "a malformed line or a unit that the bench lacks draws 4, an earlier time 5"; by the time of the last line that wasn't refused so
-unfoldable pub judged_as : ℕ → ℕ → Call → Last → Judged
-judged_as count u c last = cond (leb count u) judged.Unread (cond (may_follow last c.time) (judged.Plays u c) (judged.Early u))
+unfoldable pub judged_as : ℕ → ℕ → Call → Option Time → Result (ℕ × Call) Unplayed
+judged_as count u c last = cond (leb count u) (Err Unread) (cond (may_follow last c.time) (Ok (u, c)) (Err (Early u)))
 
-unfoldable pub judged_by : ℕ → Next → Last → Judged
-judged_by count NoLine last = judged.NoLine
-judged_by count Malformed last = judged.Unread
-judged_by count (Calls u c) last = judged_as count u c last
+unfoldable pub judged_by : ℕ → Option (ℕ × Call) → Option Time → Result (ℕ × Call) Unplayed
+judged_by count None last = Err Unread
+judged_by count (Some (u, c)) last = judged_as count u c last

@@ -2,101 +2,67 @@
 #![tactic(auto)]
 
 ghost use Rattle.std.specs.Prelude.{◌≡◌};
-ghost use Rattle.script.specs.Script.{is_scripted, called_of, line_of, judged_as, judged_by};
+ghost use Rattle.script.specs.Script.{is_scripted, called_of, line_of, judged_by};
 
-use lines::reading::{MaybeTime, MaybeVerb, digit, timed, verb};
-use lines::{Call, Last, Verb};
+use lines::reading::{digit, timed, verb};
+use lines::{Call, Verb, may_follow};
 use time::Time;
 
-// What the script has next: no line, a malformed one, or a call of the unit of that number.
-#[derive(Clone, Copy)]
-pub enum Next {
-    NoLine,
-    Malformed,
-    Calls(u8, Call),
-}
-
-// What the next script line is to the bench: none; refused 4; refused 5, of that unit; or a call of that unit.
-#[derive(Clone, Copy)]
-pub enum Judged {
-    NoLine,
+// Why a bench doesn't play a script line: malformed or of a unit that the bench lacks, refused 4; or its time, refused 5, of that unit.
+#[derive(Clone, Copy, Debug, PartialEq, Eq)]
+pub enum Unplayed {
     Unread,
     Early(u8),
-    Plays(u8, Call),
 }
 
 // Whether a script may have the verb.
+#[tactic(auto, unfolding(crate::specs::Script::is_scripted))]
 fn is_scripted(verb: Verb) -> bool
     ensures { result ≡ is_scripted verb }
 {
-    match verb {
-        Verb::Read(_) => true,
-        Verb::Write(_, _) => true,
-        Verb::Pins(_, _) => false,
-        Verb::Gate(_) => true,
-        Verb::Visit => false,
-        Verb::Deadline => false,
-    }
+    matches!(verb, Verb::Read(_) | Verb::Write(_, _) | Verb::Gate(_))
 }
 
 // What follows the time: a unit, a tab, a verb with its operands.
-fn called(rest: &[u8], time: Time) -> Next
+#[tactic(auto, unfolding(crate::specs::Script::called_of, lines::specs::Reading::digit_in))]
+fn called(rest: &[u8], time: Time) -> Option<(u8, Call)>
     ensures { result ≡ called_of time rest.now }
 {
-    if rest.len() < 2 {
-        return Next::Malformed;
-    }
-    let unit = digit(rest[0]);
-    let parted = (unit < 10) & (rest[1] == b'\t');
-    if !parted {
-        return Next::Malformed;
-    }
-    let MaybeVerb::IsVerb(verb) = verb(&rest[2..]) else {
-        return Next::Malformed;
+    let [unit, b'\t', ..] = *rest else {
+        return None;
     };
-    let scripted = is_scripted(verb);
-    if scripted {
-        Next::Calls(unit, Call { time, verb })
-    } else {
-        Next::Malformed
-    }
+    let unit = digit(unit, 10)?;
+    let verb = verb(&rest[2..])?;
+    is_scripted(verb).then_some((unit, Call { time, verb }))
 }
 
-// What a line says.
-pub fn parse(line: &[u8]) -> Next
+// The call that a line means, and its unit.
+#[tactic(auto, unfolding(crate::specs::Script::line_of))]
+pub fn parse(line: &[u8]) -> Option<(u8, Call)>
     ensures { result ≡ line_of line.now }
 {
-    let MaybeTime::IsTime(time, next) = timed(line) else {
-        return Next::Malformed;
-    };
+    let (time, next) = timed(line)?;
     called(&line[next..], time)
 }
 
-#[tactic(auto, unfolding(crate::specs::Script::judged_as))]
-fn judge_call(u: u8, call: Call, last: Last, count: u8) -> Judged
-    ensures { result ≡ judged_as count u call last }
+// What a line is to a bench of so many peripherals, by the time of the last line that wasn't refused 4 or 5.
+#[tactic(auto, unfolding(crate::specs::Script::judged_by, crate::specs::Script::judged_as))]
+pub fn judge(
+    line: Option<(u8, Call)>,
+    last: Option<Time>,
+    count: u8,
+) -> Result<(u8, Call), Unplayed>
+    ensures { result ≡ judged_by count line last }
 {
-    let lacks = count <= u;
-    if lacks {
-        return Judged::Unread;
+    let Some((unit, call)) = line else {
+        return Err(Unplayed::Unread);
+    };
+    if count <= unit {
+        return Err(Unplayed::Unread);
     }
-    let follows = last.admits(call.time);
-    if follows {
-        Judged::Plays(u, call)
+    if may_follow(last, call.time) {
+        Ok((unit, call))
     } else {
-        Judged::Early(u)
-    }
-}
-
-impl Next {
-    // By the time of the last line that wasn't refused 4 or 5, with so many peripherals.
-    pub fn judge(self, last: Last, count: u8) -> Judged
-        ensures { result ≡ judged_by count self last }
-    {
-        match self {
-            Next::NoLine => Judged::NoLine,
-            Next::Malformed => Judged::Unread,
-            Next::Calls(u, call) => judge_call(u, call, last, count),
-        }
+        Err(Unplayed::Early(unit))
     }
 }

@@ -1,35 +1,36 @@
-use mathlib.Core.Path.{sym, ap, ◌∙◌}
-use mathlib.Core.Bool.{Bool, cond}
-use mathlib.Core.List.{[]}
-use Prim.Native.Nat.{ℕ}
-use Rattle.lines.specs.declared.Last.{Last}
+use Rattle.std.proofs.Common.{sym, ap, ◌∙◌}
+use Rattle.std.specs.Prelude.{◌≡◌, ◌||◌, Bool, List, Option, [], cond, eqb, ℕ}
+use Rattle.time.specs.declared.Time.{Time}
 use Rattle.answers.specs.Wave.{placed, moment_text, wave_text}
 use Rattle.answers.proofs.Puts.{put_none, put_as}
 use Rattle.answers.proofs.Answer.write_wave.Goals as goal
 
-pub returns-then-self : goal.returns-then-self
+judged : (text : List ℕ) {n m : ℕ} → n ≡ m → cond (eqb m 4 || eqb m 5) [] text ≡ cond (eqb n 4 || eqb n 5) [] text
+judged text e = sym (ap (λ (k : ℕ). cond (eqb k 4 || eqb k 5) [] text) e)
+
+pub returns-then-refusal : goal.returns-then-refusal
 unfolding wave_text
-returns-then-self c =
+returns-then-refusal c =
     let a = c.args in
     let s = a.self.host.state in
     let l = a.self.host.last in
-    put_as (sym (ap (λ (t : Bool). cond t [] (placed a.began l s)) c.if-self.true)) (put_none a.out.now 0)
+    put_as (sym (judged (placed a.began l s) c.number_ended-refusal.ensures ∙ ap (λ (t : Bool). cond t [] (placed a.began l s)) c.if-refusal.true)) (put_none a.out.now 0)
 
-pub returns-in-First : goal.returns-in-First
+pub returns-in-None : goal.returns-in-None
 unfolding wave_text
-returns-in-First c =
+returns-in-None c =
     let a = c.args in
     let s = a.self.host.state in
     let l = a.self.host.last in
-    put_as (sym (ap (λ (t : Bool). cond t [] (placed a.began l s)) c.if-self.false ∙ ap (λ (x : Last). placed a.began x s) c.in-First.is)) (put_none a.out.now 0)
+    put_as (sym (judged (placed a.began l s) c.number_ended-refusal.ensures ∙ ap (λ (t : Bool). cond t [] (placed a.began l s)) c.if-refusal.false ∙ ap (λ (x : Option Time). placed a.began x s) c.in-None.is)) (put_none a.out.now 0)
 
-pub returns-in-After : goal.returns-in-After
+pub returns-in-Some : goal.returns-in-Some
 unfolding wave_text
-returns-in-After c =
+returns-in-Some c =
     let a = c.args in
     let s = a.self.host.state in
     let l = a.self.host.last in
     put_as
     (ap (λ (n : ℕ). moment_text n s) c.since.ensures
-    ∙ sym (ap (λ (t : Bool). cond t [] (placed a.began l s)) c.if-self.false ∙ ap (λ (x : Last). placed a.began x s) c.in-After.is))
+    ∙ sym (judged (placed a.began l s) c.number_ended-refusal.ensures ∙ ap (λ (t : Bool). cond t [] (placed a.began l s)) c.if-refusal.false ∙ ap (λ (x : Option Time). placed a.began x s) c.in-Some.is))
     c.write_moment.ensures

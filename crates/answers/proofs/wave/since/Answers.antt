@@ -1,4 +1,4 @@
 use Rattle.answers.proofs.wave.since.Goals as goal
 
-pub returns-in-After : goal.returns-in-After
-returns-in-After c = simp (c.nanoseconds_from.ensures, c.in-After.is)
+pub returns-in-Some : goal.returns-in-Some
+returns-in-Some c = simp (c.nanoseconds_from.ensures, c.in-Some.is)

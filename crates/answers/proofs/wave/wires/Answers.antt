@@ -1,4 +1,4 @@
 use Rattle.answers.proofs.wave.wires.Goals as goal
 
-pub returns-in-Driven : goal.returns-in-Driven
-returns-in-Driven c = simp (c.wired.ensures, c.in-Driven.is)
+pub returns-in-Some : goal.returns-in-Some
+returns-in-Some c = simp (c.wired.ensures, c.in-Some.is)

@@ -5,7 +5,7 @@ use native.Mathlib.Omega.{arith}
 use lib.Dec.{T, ltb, leb}
 use borrow.Author.Tests.{leb-true, leb-false, ltb-true, ltb-false, lt-ltb, le-ltb}
 use Rattle.lines.specs.Reading.{digit_of}
-use Rattle.lines.proofs.reading.digit.Goals as goal
+use Rattle.lines.proofs.reading.value.Goals as goal
 
 both : (x y : Bool) → (x && y) ≡ true → (x ≡ true) × (y ≡ true)
 both true y e = (refl, e)
@@ -31,7 +31,7 @@ overflow_sub-result c = let p = between 48 c.args.b 58 c.if-decimal.true in omeg
 pub returns-then-decimal : goal.returns-then-decimal
 unfolding digit_of
 returns-then-decimal c =
-    let p = between 48 c.args.b 58 c.if-decimal.true in (simp (le-ltb c.args.b 48 p.0, lt-ltb c.args.b 58 p.1), omega (arith, p.0, p.1))
+    let p = between 48 c.args.b 58 c.if-decimal.true in record { value = simp (le-ltb c.args.b 48 p.0, lt-ltb c.args.b 58 p.1); bound = omega (arith, p.0, p.1) }
 
 pub overflow_sub-result-then-letter : goal.overflow_sub-result-then-letter
 overflow_sub-result-then-letter c = let p = between 97 c.args.b 103 c.if-letter.true in omega (arith, p.0)
@@ -41,7 +41,7 @@ unfolding digit_of
 returns-then-letter c =
     let b = c.args.b in
     let p = between 97 b 103 c.if-letter.true in
-    (simp (le-ltb b 48 (omega (arith, p.0)), le-ltb b 58 (omega (arith, p.0)), le-ltb b 97 p.0, lt-ltb b 103 p.1), omega (arith, p.0, p.1))
+    record { value = simp (le-ltb b 48 (omega (arith, p.0)), le-ltb b 58 (omega (arith, p.0)), le-ltb b 97 p.0, lt-ltb b 103 p.1); bound = omega (arith, p.0, p.1) }
 
 pub returns-else-letter : goal.returns-else-letter
-returns-else-letter c = (neither _ _ _ _ _ refl refl refl refl c.if-decimal.false c.if-letter.false, omega arith)
+returns-else-letter c = record { value = neither _ _ _ _ _ refl refl refl refl c.if-decimal.false c.if-letter.false; bound = omega arith }

@@ -1,7 +1,0 @@
-use Rattle.answers.proofs.calls.of_read.Goals as goal
-
-pub returns-in-Is : goal.returns-in-Is
-returns-in-Is c = simp c.in-Is.is
-
-pub returns-in-Refused : goal.returns-in-Refused
-returns-in-Refused c = simp c.in-Refused.is
