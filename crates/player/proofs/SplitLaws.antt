@@ -1,13 +1,13 @@
 -- Laws: a trace may be played in parts. Played are the closed lines of a part, and what is left of it goes before the next part, cut to 65 bytes where
 -- it is longer: the answer lines are those of the whole trace.
 -- Assumes nothing.
-use Rattle.std.specs.Prelude.{◌≡◌, refl, Bool, true, false, cond, List, [], ◌∷◌, ◌++◌, ℕ, zero, suc, ◌+◌, ◌-◌, ◌≤◌, ◌<◌, eqb, length, take, drop}
+use Rattle.std.specs.Prelude.{◌≡◌, refl, Bool, true, false, cond, List, [], ◌∷◌, ◌++◌, None, ℕ, zero, suc, ◌+◌, ◌-◌, ◌≤◌, ◌<◌, eqb, length, take, drop, Ok}
 use Rattle.std.proofs.Common.{sym, ap, ◌∙◌, append_assoc, append-nil, ⊎_elim, add_assoc, arith, length-append, length-take-le, lt-ltb}
 use Rattle.std.proofs.Math.Nat.{sub-zero}
 use Rattle.std.proofs.Math.Seq.{drop-append-add}
+use Rattle.refusals.proofs.Laws.{err_not_ok}
 use Rattle.clocks.specs.declared.Clocks.{Clocks}
 use Rattle.answers.specs.declared.Output.{Output}
-use Rattle.lines.specs.declared.Parsed.TheVariants.{Malformed}
 use Rattle.player.specs.declared.Player.{Player}
 use Rattle.answers.specs.declared.Host.{Host}
 use Rattle.answers.specs.declared.Answer.{Answer}
@@ -80,28 +80,28 @@ left_follows a = left_is_rest [] a
 
 then_run : (n : ℕ) (text : List ℕ) (r q : Run) → then n text (run_then r q) ≡ run_then (then n text r) q
 then_run n text r q =
-    ap (λ (l : List ℕ). record { bytes = l; used = suc n + (r.used + q.used); player = q.player; refusal = q.refusal }) (sym (append_assoc text r.bytes q.bytes))
-    ∙ ap (λ (u : ℕ). record { bytes = (text ++ r.bytes) ++ q.bytes; used = u; player = q.player; refusal = q.refusal }) (sym (add_assoc (suc n) r.used q.used))
+    ap (λ (l : List ℕ). record { bytes = l; used = suc n + (r.used + q.used); player = q.player; ended = q.ended }) (sym (append_assoc text r.bytes q.bytes))
+    ∙ ap (λ (u : ℕ). record { bytes = (text ++ r.bytes) ++ q.bytes; used = u; player = q.player; ended = q.ended }) (sym (add_assoc (suc n) r.used q.used))
 
-none_before : (p : Player) (r : Run) → r ≡ run_then (stopped p 0) r
-none_before p r = ap (λ (u : ℕ). record { bytes = r.bytes; used = u; player = r.player; refusal = r.refusal }) (zero_is r.used)
+none_before : (p : Player) (r : Run) → r ≡ run_then (stopped p (Ok tt)) r
+none_before p r = ap (λ (u : ℕ). record { bytes = r.bytes; used = u; player = r.player; ended = r.ended }) (zero_is r.used)
   where
     zero_is : (n : ℕ) → n ≡ 0 + n
     zero_is n = omega arith
 
 -- lines played in two parts, the first of which had room for all of its own
-pub parts_are_run : (t : Output) (k : Clocks) (p : Player) (xs ys : List (List ℕ)) (free : ℕ) → (run t k p xs free).refusal ≡ 0
+pub parts_are_run : (t : Output) (k : Clocks) (p : Player) (xs ys : List (List ℕ)) (free : ℕ) → (run t k p xs free).ended ≡ Ok tt
     → run t k p (xs ++ ys) free ≡ onward t k free ys (run t k p xs free)
 parts_are_run t k p [] ys free e =
     ap (run t k p ys) (sym (sub-zero free)) ∙ none_before p (run t k p ys (free - 0)) ∙ ap (onward t k free ys) (sym (run_no_lines t k p free))
 parts_are_run t k p (l ∷ xs) ys free e =
     ⊎_elim
-    (λ h. absurd (let z : 6 ≡ 0 = sym (ap (λ (r : Run). r.refusal) (run_no_room t k p l xs free h)) ∙ e in omega arith))
+    (λ h. absurd (err_not_ok (sym (ap (λ (r : Run). r.ended) (run_no_room t k p l xs free h)) ∙ e)))
     (λ h.
     let text = line_text t k p l in
     let r = run t k (next_player t k p l) xs (free - length text) in
     run_one_more t k p l (xs ++ ys) free h
-    ∙ ap (then (length l) text) (parts_are_run t k (next_player t k p l) xs ys (free - length text) (sym (ap (λ (x : Run). x.refusal) (run_one_more t k p l xs free h)) ∙ e))
+    ∙ ap (then (length l) text) (parts_are_run t k (next_player t k p l) xs ys (free - length text) (sym (ap (λ (x : Run). x.ended) (run_one_more t k p l xs free h)) ∙ e))
     ∙ then_run (length l) text r (run t k r.player ys (free - length text - length r.bytes))
     ∙ ap (λ (n : ℕ). run_then (then (length l) text r) (run t k r.player ys n)) (fewer free (length text) (length r.bytes) (length (text ++ r.bytes)) (length-append text r.bytes))
     ∙ ap (onward t k free ys) (sym (run_one_more t k p l xs free h)))
@@ -111,21 +111,21 @@ parts_are_run t k p (l ∷ xs) ys free e =
     fewer f a b c h = omega arith
 
 -- a run that had room for all used them all
-pub used_is_spent : (t : Output) (k : Clocks) (p : Player) (ls : List (List ℕ)) (free : ℕ) → (run t k p ls free).refusal ≡ 0 → (run t k p ls free).used ≡ spent_on ls
+pub used_is_spent : (t : Output) (k : Clocks) (p : Player) (ls : List (List ℕ)) (free : ℕ) → (run t k p ls free).ended ≡ Ok tt → (run t k p ls free).used ≡ spent_on ls
 unfolding spent_on
 used_is_spent t k p [] free e = ap (λ (r : Run). r.used) (run_no_lines t k p free)
 used_is_spent t k p (l ∷ ls) free e =
     ⊎_elim
-    (λ h. absurd (let z : 6 ≡ 0 = sym (ap (λ (r : Run). r.refusal) (run_no_room t k p l ls free h)) ∙ e in omega arith))
+    (λ h. absurd (err_not_ok (sym (ap (λ (r : Run). r.ended) (run_no_room t k p l ls free h)) ∙ e)))
     (λ h.
     ap (λ (r : Run). r.used) (run_one_more t k p l ls free h)
-    ∙ ap (λ (n : ℕ). suc (length l) + n) (used_is_spent t k (next_player t k p l) ls (free - length (line_text t k p l)) (sym (ap (λ (r : Run). r.refusal) (run_one_more t k p l ls free h)) ∙ e)))
+    ∙ ap (λ (n : ℕ). suc (length l) + n) (used_is_spent t k (next_player t k p l) ls (free - length (line_text t k p l)) (sym (ap (λ (r : Run). r.ended) (run_one_more t k p l ls free h)) ∙ e)))
     (below_or_not free 80)
 
 -- ## Long lines
 
 -- a line of more than 64 bytes is malformed, whatever they are
-long_is_malformed : (l : List ℕ) → 64 < length l → call_of l ≡ Malformed
+long_is_malformed : (l : List ℕ) → 64 < length l → call_of l ≡ None
 unfolding call_of timed_of
 long_is_malformed l h = rw (lt-ltb 64 (length l) h)
 
@@ -165,14 +165,14 @@ on_from t k p ls free n a =
 
 alike_run : (t : Output) (k : Clocks) (p : Player) {xs ys : List (List ℕ)} (free : ℕ) → Alike xs ys → Same (run t k p xs free) (run t k p ys free)
 unfolding line_text
-alike_run t k p free same = record { bytes = refl; player = refl; refusal = refl }
+alike_run t k p free same = record { bytes = refl; player = refl; ended = refl }
 alike_run t k p free (long {l} {m} {ls} a b) = ⊎_elim no_room room (below_or_not free 80)
   where
     alike : {A : Type 0} (f : Run → A) → free < 80 → f (run t k p (l ∷ ls) free) ≡ f (run t k p (m ∷ ls) free)
     alike f h = ap f (run_no_room t k p l ls free h) ∙ sym (ap f (run_no_room t k p m ls free h))
 
     no_room : free < 80 → Same (run t k p (l ∷ ls) free) (run t k p (m ∷ ls) free)
-    no_room h = record { bytes = alike (λ r. r.bytes) h; player = alike (λ r. r.player) h; refusal = alike (λ r. r.refusal) h }
+    no_room h = record { bytes = alike (λ r. r.bytes) h; player = alike (λ r. r.player) h; ended = alike (λ r. r.ended) h }
 
     room : 80 ≤ free → Same (run t k p (l ∷ ls) free) (run t k p (m ∷ ls) free)
     room h =
@@ -180,7 +180,7 @@ alike_run t k p free (long {l} {m} {ls} a b) = ⊎_elim no_room room (below_or_n
         record {
           bytes = ap (λ (r : Run). r.bytes) (run_one_more t k p l ls free h) ∙ ap (λ (x : Answer). (on_from t k p ls free 0 x).bytes) e ∙ sym (ap (λ (r : Run). r.bytes) (run_one_more t k p m ls free h));
           player = ap (λ (r : Run). r.player) (run_one_more t k p l ls free h) ∙ ap (λ (x : Answer). (on_from t k p ls free 0 x).player) e ∙ sym (ap (λ (r : Run). r.player) (run_one_more t k p m ls free h));
-          refusal = ap (λ (r : Run). r.refusal) (run_one_more t k p l ls free h) ∙ ap (λ (x : Answer). (on_from t k p ls free 0 x).refusal) e ∙ sym (ap (λ (r : Run). r.refusal) (run_one_more t k p m ls free h));
+          ended = ap (λ (r : Run). r.ended) (run_one_more t k p l ls free h) ∙ ap (λ (x : Answer). (on_from t k p ls free 0 x).ended) e ∙ sym (ap (λ (r : Run). r.ended) (run_one_more t k p m ls free h));
         }
 
 -- a line that was begun may be cut to its first 65 bytes

@@ -11,7 +11,7 @@ spent_on (l ∷ ls) = suc (length l) + spent_on ls
 
 -- one run after another
 abbrev pub run_then : Run → Run → Run
-run_then r q = record { bytes = r.bytes ++ q.bytes; used = r.used + q.used; player = q.player; refusal = q.refusal }
+run_then r q = record { bytes = r.bytes ++ q.bytes; used = r.used + q.used; player = q.player; ended = q.ended }
 
 -- a run goes on where the one before it ended
 abbrev pub onward : Output → Clocks → ℕ → List (List ℕ) → Run → Run
@@ -26,4 +26,4 @@ pub data Alike : List (List ℕ) → List (List ℕ) → Type 0 where
 pub record Same (r q : Run) : Type 0 where
   pub bytes : r.bytes ≡ q.bytes
   pub player : r.player ≡ q.player
-  pub refusal : r.refusal ≡ q.refusal
+  pub ended : r.ended ≡ q.ended

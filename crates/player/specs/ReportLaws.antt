@@ -1,8 +1,9 @@
 -- Laws: the reports on a trace count its lines.
 -- Assumes nothing.
-use Rattle.std.specs.Prelude.{◌≡◌, ℕ, ◌-◌, length}
-use Rattle.std.proofs.Common.{sym, ap, ◌∙◌, ⊎_elim, arith}
+use Rattle.std.specs.Prelude.{◌≡◌, ℕ, ◌-◌, length, Ok}
+use Rattle.std.proofs.Common.{sym, ap, ◌∙◌, ⊎_elim}
 use mathlib.Core.List.{List, [], ◌∷◌, foldl}
+use Rattle.refusals.proofs.Laws.{err_not_ok}
 use Rattle.clocks.specs.declared.Clocks.{Clocks}
 use Rattle.window.specs.declared.Window.{Window}
 use Rattle.window.specs.Lines.{Line}
@@ -19,16 +20,16 @@ abbrev taking : Window → Line → Window
 taking w l = take_of w l.before l.after
 
 -- the window after lines that had room has taken them one after the other
-window_is : (o : Output) (k : Clocks) (p : Player) (ls : List (List ℕ)) (free : ℕ) → (run o k p ls free).refusal ≡ 0
+window_is : (o : Output) (k : Clocks) (p : Player) (ls : List (List ℕ)) (free : ℕ) → (run o k p ls free).ended ≡ Ok tt
     → (run o k p ls free).player.seen.window ≡ foldl taking p.seen.window (statuses k p.host ls)
 unfolding statuses
 window_is o k p [] free e = ap (λ (r : Run). r.player.seen.window) (run_no_lines o k p free)
 window_is o k p (l ∷ ls) free e =
     ⊎_elim
-    (λ h. absurd (let z : 6 ≡ 0 = sym (ap (λ (r : Run). r.refusal) (run_no_room o k p l ls free h)) ∙ e in omega arith))
+    (λ h. absurd (err_not_ok (sym (ap (λ (r : Run). r.ended) (run_no_room o k p l ls free h)) ∙ e)))
     (λ h.
     ap (λ (r : Run). r.player.seen.window) (run_one_more o k p l ls free h)
-    ∙ window_is o k (next_player o k p l) ls (free - length (line_text o k p l)) (sym (ap (λ (r : Run). r.refusal) (run_one_more o k p l ls free h)) ∙ e))
+    ∙ window_is o k (next_player o k p l) ls (free - length (line_text o k p l)) (sym (ap (λ (r : Run). r.ended) (run_one_more o k p l ls free h)) ∙ e))
     (below_or_not free 80)
 
 pub reports_count_lem : ReportsCount

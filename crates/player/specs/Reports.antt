@@ -1,5 +1,5 @@
 -- Definitions: what the reports on a whole trace count (document 02, (d) and (l)): the lines themselves, each with its status before and after.
-use Rattle.std.specs.Prelude.{◌≡◌, true, List, [], ◌∷◌, ℕ}
+use Rattle.std.specs.Prelude.{◌≡◌, true, List, [], ◌∷◌, ℕ, Ok}
 use Rattle.clocks.specs.declared.Clocks.{Clocks}
 use Rattle.window.specs.Lines.{Line, rises, latest}
 use Rattle.window.specs.Window.{report_of}
@@ -28,5 +28,5 @@ statuses_in trace = statuses trace_clocks fresh_host (lines_left fresh_player (l
 -- "exactly the number of lines with a rising flag among the latest 64, or all lines while fewer were played": after a whole trace that had room
 abbrev pub ReportsCount : Type 0
 ReportsCount =
-    (o : Output) (trace : List ℕ) (free : ℕ) → (run_of o trace free).refusal ≡ 0
+    (o : Output) (trace : List ℕ) (free : ℕ) → (run_of o trace free).ended ≡ Ok tt
     → report_of (run_of o trace free).player.seen.window ≡ rises (latest 64 (statuses_in trace))

@@ -1,8 +1,9 @@
 -- Definitions: what playing a trace gives (document 01, "The trace player", refusal 6).
-use Rattle.std.specs.Prelude.{Bool, true, cond, List, [], ◌∷◌, ◌++◌, ℕ, suc, ◌+◌, ◌-◌, min, ltb, length, take, drop}
+use Rattle.std.specs.Prelude.{Bool, true, cond, List, [], ◌∷◌, ◌++◌, None, ℕ, suc, ◌+◌, ◌-◌, min, ltb, length, take, drop, Result, Ok, Err, ⊤}
+use Rattle.refusals.specs.declared.Refusal.{Refusal}
+use Rattle.refusals.specs.declared.Refusal.TheVariants.{NoRoom}
 use Rattle.clocks.specs.declared.Clocks.{Clocks}
 use Rattle.iic.specs.State.{default_iic}
-use Rattle.lines.specs.declared.Last.TheVariants.{First}
 use Rattle.answers.specs.declared.Host.{Host}
 use Rattle.answers.specs.declared.Answer.{Answer}
 use Rattle.answers.specs.declared.Output.{Output}
@@ -15,28 +16,28 @@ use Rattle.answers.specs.Calls.{answer_of, trace_clocks}
 use Rattle.answers.specs.Answers.{seen_by, text_by}
 
 abbrev pub fresh_host : Host
-fresh_host = record { last = First; state = default_iic }
+fresh_host = record { last = None; state = default_iic }
 
 unfoldable pub fresh_player : Player
-fresh_player = record { lines = 0; seen = record { window = empty_window; began = First }; host = fresh_host }
+fresh_player = record { lines = 0; seen = record { window = empty_window; began = None }; host = fresh_host }
 
 -- after 1,000,000 lines no more is read
 abbrev pub lines_left : Player → List (List ℕ) → List (List ℕ)
 lines_left p ls = take (1000000 - p.lines) ls
 
--- what playing lines gives: the bytes written, the bytes of the lines played with their newlines, the player after them, and 0 or 6
+-- what playing lines gives: the bytes written, the bytes of the lines played with their newlines, the player after them, and whether room lacked (`NoRoom`)
 pub record Run : Type 0 where
   pub bytes : List ℕ
   pub used : ℕ
   pub player : Player
-  pub refusal : ℕ
+  pub ended : Result ⊤ Refusal
 
-abbrev pub stopped : Player → ℕ → Run
-stopped p n = record { bytes = []; used = 0; player = p; refusal = n }
+abbrev pub stopped : Player → Result ⊤ Refusal → Run
+stopped p e = record { bytes = []; used = 0; player = p; ended = e }
 
 -- a line of that length with its text, and the run after it
 abbrev pub then : ℕ → List ℕ → Run → Run
-then n text r = record { bytes = text ++ r.bytes; used = suc n + r.used; player = r.player; refusal = r.refusal }
+then n text r = record { bytes = text ++ r.bytes; used = suc n + r.used; player = r.player; ended = r.ended }
 
 -- a line with its answer: line numbers count every line from 1, and the window takes its status before and after
 abbrev pub answered : Output → Player → Answer → Player
@@ -50,11 +51,11 @@ next_player t k p line = answered t p (answer_of k p.host line)
 unfoldable pub line_text : Output → Clocks → Player → List ℕ → List ℕ
 line_text t k p line = text_by t (p.lines + 1) (next_player t k p line).seen (answer_of k p.host line)
 
--- 6 where fewer than 80 bytes are free before a line
+-- `NoRoom` where fewer than 80 bytes are free before a line
 unfoldable pub run : Output → Clocks → Player → List (List ℕ) → ℕ → Run
-run t k p [] free = stopped p 0
+run t k p [] free = stopped p (Ok tt)
 run t k p (l ∷ ls) free =
-    cond (ltb free 80) (stopped p 6) (then (length l) (line_text t k p l) (run t k (next_player t k p l) ls (free - length (line_text t k p l))))
+    cond (ltb free 80) (stopped p (Err NoRoom)) (then (length l) (line_text t k p l) (run t k (next_player t k p l) ls (free - length (line_text t k p l))))
 
 -- a part of a trace, from the player that the part before left; the trace ends with it or goes on
 abbrev pub part_of : Output → Player → Bool → List ℕ → ℕ → Run
@@ -70,8 +71,8 @@ over r before = r.bytes ++ drop (length r.bytes) before
 
 -- a last line may lack the newline that is counted
 abbrev pub progress_of : ℕ → Run → Progress
-progress_of long r = record { used = min long r.used; written = length r.bytes; refusal = r.refusal; player = r.player }
+progress_of long r = record { used = min long r.used; written = length r.bytes; ended = r.ended; player = r.player }
 
--- bytes written, lines played, 0 or 6
+-- bytes written, lines played, whether room lacked
 abbrev pub summary_of : Run → Summary
-summary_of r = record { written = length r.bytes; lines = r.player.lines; refusal = r.refusal }
+summary_of r = record { written = length r.bytes; lines = r.player.lines; ended = r.ended }

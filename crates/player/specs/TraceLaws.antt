@@ -1,17 +1,18 @@
 -- Laws: the steps of a run, and what it leaves of a buffer.
 -- Assumes nothing.
-use Rattle.std.specs.Prelude.{◌≡◌, refl, List, [], ◌∷◌, ℕ, ◌+◌, ◌-◌, ◌≤◌, ◌<◌, length, drop}
+use Rattle.std.specs.Prelude.{◌≡◌, refl, List, [], ◌∷◌, ℕ, ◌+◌, ◌-◌, ◌≤◌, ◌<◌, length, drop, Ok, Err}
 use Rattle.std.proofs.Common.{ap, ◌∙◌, arith, length-append, length-drop, lt-ltb, le-ltb}
+use Rattle.refusals.specs.declared.Refusal.TheVariants.{NoRoom}
 use Rattle.clocks.specs.declared.Clocks.{Clocks}
 use Rattle.answers.specs.declared.Output.{Output}
 use Rattle.player.specs.declared.Player.{Player}
 use Rattle.player.specs.Trace.{Run, stopped, then, line_text, next_player, run, over}
 
-pub run_no_lines : (t : Output) (k : Clocks) (p : Player) (free : ℕ) → run t k p [] free ≡ stopped p 0
+pub run_no_lines : (t : Output) (k : Clocks) (p : Player) (free : ℕ) → run t k p [] free ≡ stopped p (Ok tt)
 unfolding run
 run_no_lines t k p free = refl
 
-pub run_no_room : (t : Output) (k : Clocks) (p : Player) (l : List ℕ) (ls : List (List ℕ)) (free : ℕ) → free < 80 → run t k p (l ∷ ls) free ≡ stopped p 6
+pub run_no_room : (t : Output) (k : Clocks) (p : Player) (l : List ℕ) (ls : List (List ℕ)) (free : ℕ) → free < 80 → run t k p (l ∷ ls) free ≡ stopped p (Err NoRoom)
 unfolding run
 run_no_room t k p l ls free h = rw (lt-ltb free 80 h)
 

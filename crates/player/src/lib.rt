@@ -7,8 +7,9 @@ ghost use Rattle.player.specs.Trace.{fresh_player, part_of, run_of, over, progre
 
 use answers::{Host, Output, Seen};
 use iic::Iic;
-use lines::Last;
-use lines::ends::{line_end, past};
+use lines::each::Lines;
+use lines::ends::past;
+use refusals::Refusal;
 use window::Window;
 
 // The lines played so far, and what they left.
@@ -19,25 +20,26 @@ pub struct Player {
     pub host: Host,
 }
 
-// How far a part of a trace was played: its bytes used, the bytes written, 0 or 6, and the player after it.
+// How far a part of a trace was played: its bytes used, the bytes written, whether it ended for lack of room, and the player after it.
 #[derive(Clone, Copy)]
 pub struct Progress {
     pub used: usize,
     pub written: usize,
-    pub refusal: u8,
+    pub ended: Result<(), Refusal>,
     pub player: Player,
 }
 
-// What a whole trace gives: bytes written, lines played, 0 or 6.
+// What a whole trace gives: bytes written, lines played, whether it ended for lack of room.
 #[derive(Clone, Copy)]
 pub struct Summary {
     pub written: usize,
     pub lines: u64,
-    pub refusal: u8,
+    pub ended: Result<(), Refusal>,
 }
 
 impl Player {
     // Before the first line.
+    #[tactic(auto, unfolding(crate::specs::Trace::fresh_player))]
     pub fn new() -> Player
         ensures { result ≡ fresh_player }
     {
@@ -45,10 +47,10 @@ impl Player {
             lines: 0,
             seen: Seen {
                 window: Window::empty(),
-                began: Last::First,
+                began: None,
             },
             host: Host {
-                last: Last::First,
+                last: None,
                 state: Iic::new(),
             },
         }
@@ -61,43 +63,39 @@ impl Player {
         let mut host = self.host;
         let mut seen = self.seen;
         let mut lines = self.lines;
-        let mut at = 0usize;
+        let mut used = 0usize;
         let mut written = 0usize;
-        while at < part.len() {
+        for line in (Lines { rest: part, ended }) {
             if 1000000 <= lines {
-                break;
-            }
-            let end = line_end(part, at);
-            let whole = ended | (end < part.len());
-            if !whole {
                 break;
             }
             if out.len() - written < 80 {
                 return Progress {
-                    used: at,
+                    used,
                     written,
-                    refusal: 6,
+                    ended: Err(Refusal::NoRoom),
                     player: Player { lines, seen, host },
                 };
             }
-            let answer = host.answer(&part[at..end]);
+            let answer = host.answer(line);
             lines += 1;
             let before = host.state.registers.status;
             host = answer.host;
             seen = seen.after(output, before, host);
             written += answer.write(output, seen, &mut out[written..], lines);
-            at = past(end, part.len());
+            used = past(used + line.len(), part.len());
         }
         Progress {
-            used: at,
+            used,
             written,
-            refusal: 0,
+            ended: Ok(()),
             player: Player { lines, seen, host },
         }
     }
 }
 
 // Plays a whole trace.
+#[tactic(auto, unfolding(crate::specs::Trace::run_of))]
 pub fn play(output: Output, trace: &[u8], out: &mut [u8]) -> Summary
     ensures { (result ≡ summary_of (run_of output trace.now (length out.old))) × (out.new ≡ over (run_of output trace.now (length out.old)) out.old) }
 {
@@ -105,11 +103,11 @@ pub fn play(output: Output, trace: &[u8], out: &mut [u8]) -> Summary
     Summary {
         written: done.written,
         lines: done.player.lines,
-        refusal: done.refusal,
+        ended: done.ended,
     }
 }
 
-// The same for a Rust host: the bytes written.
+// The same for a Rust host: the bytes written. This export and the two below differ in the output alone: the C interface has a name for each.
 #[unsafe(no_mangle)]
 pub extern "C" fn play_trace(trace: &[u8], out: &mut [u8]) -> usize
     ensures { (result ≡ (summary_of (run_of Answers trace.now (length out.old))).written) × (out.new ≡ over (run_of Answers trace.now (length out.old)) out.old) }

@@ -1,70 +1,86 @@
 -- Laws: lines played one at a time, and what is known after a further first line.
 -- Assumes nothing.
-use Rattle.std.specs.Prelude.{◌≡◌, refl, Bool, true, false, cond, List, [], ◌∷◌, ◌++◌, ◌⊎◌, ℕ, suc, ◌+◌, ◌-◌, ◌*◌, ◌≤◌, ◌<◌, min, eqb, length, take, drop, get_or}
+use Rattle.std.specs.Prelude.{◌≡◌, refl, List, [], ◌∷◌, ◌++◌, ◌⊎◌, Option, Some, None, MatchOption, IfSome, Bool, true, false, cond, eqb, ℕ, suc, ◌+◌, ◌-◌, ◌*◌, ◌≤◌, ◌<◌, min, length, take, drop, get_or}
+use Rattle.std.specs.Borrow.{Bor}
 use Rattle.std.proofs.Math.Path.{sym, ap}
-use Rattle.std.proofs.Common.{◌∙◌, subst, inr, ⊎_elim, mul-le-mul, add-one, arith, length-drop, take-suc, drop-cons, eqb-true}
+use Rattle.std.proofs.Common.{◌∙◌, subst, inl, inr, ⊎_elim, mul-le-mul, add-one, arith, length-drop, take-suc, drop-cons}
 use Rattle.std.proofs.Math.Nat.{sub-zero}
-use Rattle.std.proofs.lemmas.Bool.{eqb-false}
+use Rattle.std.proofs.lemmas.Option.{none-some, same_Some}
 use Rattle.clocks.specs.declared.Clocks.{Clocks}
 use Rattle.answers.specs.declared.Host.{Host}
 use Rattle.answers.specs.declared.Answer.{Answer}
-use Rattle.lines.specs.Lines.{lines_in, line_length}
-use Rattle.lines.specs.LineLaws.{line_within, line_next, lines_end}
+use Rattle.lines.specs.Lines.{unclosed, lines_from, lines_in}
 use Rattle.answers.specs.Calls.{answer_of}
 use Rattle.answers.specs.Calls.{trace_clocks}
 use Rattle.search.specs.declared.Best.{Best}
-use Rattle.search.specs.declared.Found.TheVariants.{At, Refused}
-use Rattle.search.specs.Shortest.{unplayed, last_answer, drawn_by, Least, Never, Answers}
+use Rattle.search.specs.Shortest.{unplayed, last_answer, drawn_by, Answers}
 use Rattle.search.proofs.ShortestLaws.{less_or}
-use Rattle.search.specs.Search.{Hit, Met, kept_of, found_of, Sought}
+use Rattle.search.specs.Search.{Hit, Met, kept_of, run_from, Sought}
+use Rattle.refusals.specs.Refusals.{number_ended}
 
 -- ## Lines one at a time
 
--- the lines from a place on are those from a number on
-pub record Stands (s : List ℕ) (ls : List (List ℕ)) (at n : ℕ) : Type 0 where
-  pub lines_are : lines_in true (drop at s) ≡ drop n ls
+-- the lines that are left are those from a number on
+pub record Left (left ls : List (List ℕ)) (n : ℕ) : Type 0 where
+  pub lines_are : left ≡ drop n ls
   pub n_le : n ≤ length ls
 
-pub stands : (s : List ℕ) (at : ℕ) → Stands s (lines_in true (drop at s)) at 0
-stands s at = record { lines_are = refl; n_le = omega arith }
+pub all_left : (ls : List (List ℕ)) → Left ls ls 0
+all_left ls = record { lines_are = refl; n_le = omega arith }
 
-module _ {s : List ℕ} {ls : List (List ℕ)} {at n : ℕ} (g : Stands s ls at n) where
-  pub stands_end : length s ≤ at → length ls ≤ n
-  stands_end h =
-      let e : length (drop n ls) ≡ length ls - n = length-drop n ls in
-      let z : length (drop n ls) ≡ 0 = ap length (sym g.lines_are ∙ lines_end true s at h) in
-      omega arith
+module _ {left ls : List (List ℕ)} {n : ℕ} (g : Left left ls n) where
+  left_long : length left ≡ length ls - n
+  left_long = ap length g.lines_are ∙ length-drop n ls
 
-  module _ (end at' : ℕ) (some : at < length s) (end_is : end ≡ at + line_length (drop at s)) (at'-is : at' ≡ min (length s) (end + 1)) where
-    pub next_are : drop n ls ≡ take (end - at) (drop at s) ∷ lines_in true (drop at' s)
-    next_are =
-        sym g.lines_are
-        ∙ line_next true s at end some end_is (line_within s at end some end_is) refl
-        ∙ ap (λ (x : ℕ). take (end - at) (drop at s) ∷ lines_in true (drop x s)) (sym at'-is)
+  pub none_left : left ≡ [] → length ls ≤ n
+  none_left e = let z : length left ≡ 0 = ap length e in omega (arith, left_long)
 
+  module _ (l : List ℕ) (more : List (List ℕ)) (next : left ≡ l ∷ more) where
     pub next_within : n < length ls
-    next_within =
-        let e : length (drop n ls) ≡ length ls - n = length-drop n ls in
-        let z : length (drop n ls) ≡ suc (length (lines_in true (drop at' s))) = ap length next_are in
-        omega arith
+    next_within = let z : length left ≡ suc (length more) = ap length next in omega (arith, left_long)
 
-    split : get_or ls n [] ∷ drop (suc n) ls ≡ take (end - at) (drop at s) ∷ lines_in true (drop at' s)
-    split = sym (drop-cons ls n [] next_within) ∙ next_are
+    split : get_or ls n [] ∷ drop (suc n) ls ≡ l ∷ more
+    split = sym (drop-cons ls n [] next_within) ∙ sym g.lines_are ∙ next
 
-    pub stands_next : Stands s ls at' (n + 1)
-    stands_next = record {
-      lines_are = let q = split in let r : lines_in true (drop at' s) ≡ drop (suc n) ls = cc in r ∙ ap (λ (x : ℕ). drop x ls) (sym (add-one n));
+    pub left_next : Left more ls (n + 1)
+    left_next = record {
+      lines_are = let q = split in let r : more ≡ drop (suc n) ls = cc in r ∙ ap (λ (x : ℕ). drop x ls) (sym (add-one n));
       n_le = omega (arith, next_within);
     }
 
-    pub taken_next : take (n + 1) ls ≡ take n ls ++ (take (end - at) (drop at s) ∷ [])
+    pub taken_next : take (n + 1) ls ≡ take n ls ++ (l ∷ [])
     taken_next =
         let q = split in
-        let r : get_or ls n [] ≡ take (end - at) (drop at s) = cc in
+        let r : get_or ls n [] ≡ l = cc in
         ap (λ (x : ℕ). take x ls) (add-one n) ∙ take-suc ls n [] next_within ∙ ap (λ (x : List ℕ). take n ls ++ (x ∷ [])) r
 
-  pub stands_within : at < length s → n < length ls
-  stands_within some = next_within (at + line_length (drop at s)) _ some refl refl
+  -- after a call that gives the next line, where there is one
+  pub left_after : (more : List (List ℕ)) (given : Option (Bor (List ℕ))) → n < length ls → MatchOption given ((left ≡ []) × (more ≡ [])) (λ x. left ≡ x.now ∷ more) → Left more ls (n + 1)
+  left_after more None some e = absurd (let h = none_left e.0 in omega arith)
+  left_after more (Some x) some e = left_next x.now more e
+
+unclosed_fits : (ended : Bool) (begun : List ℕ) → length (unclosed ended begun) ≤ min 1 (length begun)
+unclosed_fits ended [] = omega arith
+unclosed_fits ended (x ∷ xs) = by ended
+  where
+    by : (t : Bool) → length (cond t ((x ∷ xs) ∷ []) []) ≤ min 1 (suc (length xs))
+    by true = omega arith
+    by false = omega arith
+
+from_fit : (ended : Bool) (begun s : List ℕ) → length (lines_from ended begun s) ≤ length s + min 1 (length begun)
+unfolding lines_from
+from_fit ended begun [] = let h = unclosed_fits ended begun in omega (arith, h)
+from_fit ended begun (x ∷ xs) = by (eqb x 10) (from_fit ended [] xs) (from_fit ended (begun ++ (x ∷ [])) xs)
+  where
+    by : (t : Bool) → length (lines_from ended [] xs) ≤ length xs + min 1 0 → length (lines_from ended (begun ++ (x ∷ [])) xs) ≤ length xs + min 1 (length (begun ++ (x ∷ [])))
+        → length (cond t (begun ∷ lines_from ended [] xs) (lines_from ended (begun ++ (x ∷ [])) xs)) ≤ suc (length xs) + min 1 (length begun)
+    by true a b = omega (arith, a)
+    by false a b = omega (arith, b)
+
+-- there are no more lines than bytes
+pub lines_fit : (ended : Bool) (s : List ℕ) → length (lines_in ended s) ≤ length s
+unfolding lines_in
+lines_fit ended s = let h = from_fit ended [] s in omega (arith, h)
 
 -- ## Playing
 
@@ -79,9 +95,9 @@ pub record Playing (ls : List (List ℕ)) (number : ℕ) (h : Host) (n : ℕ) : 
   pub clear : (m : ℕ) → 0 < m → m ≤ n → Hit ls number m → ⊥
 
 module _ {ls : List (List ℕ)} {number : ℕ} {h : Host} {n : ℕ} (p : Playing ls number h n) where
-  pub met_none : (most : ℕ) → (most ≤ n) ⊎ (length ls ≤ n) → Met ls number most 0
+  pub met_none : (most : ℕ) → (most ≤ n) ⊎ (length ls ≤ n) → Met ls number most None
   met_none most e = record {
-    hit = λ z. absurd (omega arith);
+    hit = λ r z. absurd (none-some r z);
     clear = λ m some few within before. p.clear m some (⊎_elim (λ w. omega arith) (λ w. omega arith) e);
   }
 
@@ -94,17 +110,17 @@ module _ {ls : List (List ℕ)} {number : ℕ} {h : Host} {n : ℕ} (p : Playing
         ∙ ap (λ (x : Host). answer_of trace_clocks x l) (sym p.host_is)
         ∙ sym a-is
 
-    drawn_is : drawn_by (take (n + 1) ls) ≡ a.refusal
+    drawn_is : drawn_by (take (n + 1) ls) ≡ number_ended a.answer
     unfolding drawn_by
-    drawn_is = ap (λ (x : Answer). x.refusal) answer_is
+    drawn_is = ap (λ (x : Answer). number_ended x.answer) answer_is
 
-    pub met_here : (most : ℕ) → n < most → n < length ls → a.refusal ≡ number → Met ls number most (n + 1)
+    pub met_here : (most : ℕ) → n < most → n < length ls → number_ended a.answer ≡ number → Met ls number most (Some (n + 1))
     met_here most few within e = record {
-      hit = λ z. (omega arith, omega arith, drawn_is ∙ e);
-      clear = λ m some _ _ before. p.clear m some (let b : m < n + 1 = before (omega arith) in omega arith);
+      hit = λ r z. let same : n + 1 ≡ r = same_Some (n + 1) r z in (omega arith, omega arith, omega arith, subst (λ (x : ℕ). Hit ls number x) same (drawn_is ∙ e));
+      clear = λ m some _ _ before. p.clear m some (let b : m < n + 1 = before (n + 1) refl in omega arith);
     }
 
-    pub playing_on : (a.refusal ≡ number → ⊥) → Playing ls number a.host (n + 1)
+    pub playing_on : (number_ended a.answer ≡ number → ⊥) → Playing ls number a.host (n + 1)
     playing_on ne = record {
       host_is = ap (λ (x : Answer). x.host) (sym answer_is);
       clear = λ m some le hit. ⊎_elim (λ lt. p.clear m some (omega arith) hit) (λ ge. let e : m ≡ n + 1 = omega arith in ne (sym drawn_is ∙ subst (λ (x : ℕ). drawn_by (take x ls) ≡ number) e hit)) (less_or m (n + 1));
@@ -138,74 +154,66 @@ few_within plays lines limit h w = omega (arith, mul-le-mul {n₁ = lines} {m₁
 pub few_none : (ls : List (List ℕ)) → Few ls 0 0
 few_none ls = record { few = rw sub-zero (omega arith) }
 
-pub sought_none_yet : (ls : List (List ℕ)) (number most : ℕ) → most ≡ length ls → Sought ls number 0 0 most
+pub sought_none_yet : (ls : List (List ℕ)) (number most : ℕ) → most ≡ length ls → Sought ls number 0 None most
 sought_none_yet ls number most e = record {
   none = λ z. e;
-  found = λ z. absurd (omega arith);
+  found = λ f z. absurd (none-some f z);
   shorter = λ g n lt some few within hit. omega arith;
-  earlier = λ g lt within hit. omega arith;
+  earlier = λ f g z lt within hit. none-some f z;
 }
 
-module _ {ls : List (List ℕ)} {number tried : ℕ} {b : Best} (g : Sought ls number tried b.first b.most) where
-  module _ (r : ℕ) (met : Met (drop tried ls) number b.most r) (within : tried < length ls) where
-    long : length (drop tried ls) ≡ length ls - tried
-    long = length-drop tried ls
+-- what draws the number is a line at least
+pub met_some : {ls : List (List ℕ)} {number most : ℕ} (drawn : Option ℕ) → Met ls number most drawn → IfSome drawn (λ r. 0 < r)
+met_some None met = tt
+met_some (Some r) met = (met.hit r refl).0
 
-    -- nothing as short from here either
-    kept_old : r ≡ 0 → Sought ls number (tried + 1) b.first b.most
-    kept_old z = record {
-      none = g.none;
-      found = λ some. (let f = (g.found some).0 in omega arith, (g.found some).1, (g.found some).2);
-      shorter = λ f n lt some few fits hit. ⊎_elim (λ old. g.shorter f n old some few fits hit)
-          (λ new. let e : f ≡ tried = omega arith in met.clear n some few (omega (arith, long)) (λ p. absurd (omega arith)) (subst (λ (x : ℕ). Hit (drop x ls) number n) e hit)) (less_or f tried);
-      earlier = g.earlier;
-    }
+module _ {ls : List (List ℕ)} {number tried : ℕ} {b : Best} (g : Sought ls number tried b.first b.most) (within : tried < length ls) where
+  long : length (drop tried ls) ≡ length ls - tried
+  long = length-drop tried ls
 
-    -- a shorter run starts here
-    kept_new : 0 < r → Sought ls number (tried + 1) (tried + 1) (r - 1)
-    kept_new p = record {
-      none = λ z. absurd (omega arith);
-      found = λ some. (omega arith, let h = (met.hit p).1 in omega (arith, long), at_first (tried + 1 - 1) (r - 1 + 1) (omega arith) (omega arith));
-      shorter = λ f n lt some few fits hit. ⊎_elim (λ old. g.shorter f n old some (let h = (met.hit p).0 in omega arith) fits hit)
-          (λ new. let e : f ≡ tried = omega arith in met.clear n some (let h = (met.hit p).0 in omega arith) (omega (arith, long)) (λ q. omega arith) (subst (λ (x : ℕ). Hit (drop x ls) number n) e hit)) (less_or f tried);
-      earlier = λ f lt fits hit. g.shorter f (r - 1 + 1) (omega arith) (omega arith) (let h = (met.hit p).0 in omega arith) fits hit;
-    }
-      where
-        at_first : (f n : ℕ) → f ≡ tried → n ≡ r → Hit (drop f ls) number n
-        at_first f n e d = subst (λ (x : ℕ). Hit (drop x ls) number n) (sym e) (subst (λ (x : ℕ). Hit (drop tried ls) number x) (sym d) (met.hit p).2)
+  -- a first line after those tried, or that one
+  new_or : (f : ℕ) → f < tried + 1 → (f < tried) ⊎ (f ≡ tried)
+  new_or f lt = ⊎_elim inl (λ ge. inr (omega arith)) (less_or f tried)
 
-    pub sought_on : Sought ls number (tried + 1) (kept_of b (tried + 1) r).first (kept_of b (tried + 1) r).most
-    sought_on = by (eqb r 0) refl
-      where
-        by : (t : Bool) → eqb r 0 ≡ t → Sought ls number (tried + 1) (cond t b (record { first = tried + 1; most = r - 1 })).first (cond t b (record { first = tried + 1; most = r - 1 })).most
-        by true e = kept_old (eqb-true r 0 e)
-        by false e = kept_new (let ne = eqb-false r 0 e in omega arith)
-
-module _ {ls : List (List ℕ)} {number tried : ℕ} {b : Best} (g : Sought ls number tried b.first b.most) (all : length ls ≤ tried) where
-  never : b.first ≡ 0 → Never ls number
-  never z f m d = g.shorter (f - 1) m (omega (arith, d.within, d.some)) d.some (omega (arith, d.within, g.none z)) d.within d.draws
-
-  least : 0 < number → 0 < b.first → Least ls number b.first (b.most + 1)
-  least real some = record {
-    is = record {
-      refuses = real;
-      begins = some;
-      some = omega arith;
-      within = let w = (g.found some).1 in omega arith;
-      draws = (g.found some).2;
-    };
-    shortest = λ f m d. ⊎_elim (λ lt. absurd (g.shorter (f - 1) m (omega (arith, d.within, d.some)) d.some (omega arith) d.within d.draws)) (λ ge. ge) (less_or m (b.most + 1));
-    earliest = λ f d. ⊎_elim (λ lt. absurd (g.earlier (f - 1) (omega (arith, d.begins)) d.within d.draws)) (λ ge. ge) (less_or f b.first);
+  pub sought_on : (drawn : Option ℕ) → Met (drop tried ls) number b.most drawn → Sought ls number (tried + 1) (kept_of b (tried + 1) drawn).first (kept_of b (tried + 1) drawn).most
+  -- nothing as short from here either
+  sought_on None met = record {
+    none = g.none;
+    found = λ f e. let h = g.found f e in (h.0, omega (arith, h.1), h.2, h.3);
+    shorter = λ f n lt some few fits hit. ⊎_elim (λ old. g.shorter f n old some few fits hit)
+        (λ e. met.clear n some few (omega (arith, long)) (λ r z. absurd (none-some r z)) (subst (λ (x : ℕ). Hit (drop x ls) number n) e hit)) (new_or f lt);
+    earlier = g.earlier;
   }
-
-  -- where every first line was tried, the best run is what is asked for
-  pub sought_answers : (limit : ℕ) → 0 < number → length ls ≤ limit → Answers ls number limit (found_of b)
-  sought_answers limit real fits = by (eqb b.first 0) refl
+  -- a shorter run starts here
+  sought_on (Some r) met =
+      let h = met.hit r refl in record {
+        none = λ z. absurd (none-some (tried + 1) (sym z));
+        found = λ f e. let same : tried + 1 ≡ f = same_Some (tried + 1) f e in
+            (omega arith, omega arith, omega (arith, long), at_first (f - 1) (r - 1 + 1) (omega arith) (omega (arith, h.0)) h.3);
+        shorter = λ f n lt some few fits hit. ⊎_elim (λ old. g.shorter f n old some (omega (arith, h.1)) fits hit)
+            (λ e. met.clear n some (omega (arith, h.1)) (omega (arith, long)) (λ q z. let same : r ≡ q = same_Some r q z in omega (arith, h.0)) (subst (λ (x : ℕ). Hit (drop x ls) number n) e hit)) (new_or f lt);
+        earlier = λ f x e lt fits hit. let same : tried + 1 ≡ f = same_Some (tried + 1) f e in g.shorter x (r - 1 + 1) (omega arith) (omega arith) (omega (arith, h.0, h.1)) fits hit;
+      }
     where
-      by : (t : Bool) → eqb b.first 0 ≡ t → Answers ls number limit (cond t (Refused 18) (At b.first (b.most + 1)))
-      by true e = inr (fits, never (eqb-true b.first 0 e), refl)
-      by false e = (fits, least real (let ne = eqb-false b.first 0 e in omega arith))
+      at_first : (f n : ℕ) → f ≡ tried → n ≡ r → Hit (drop tried ls) number r → Hit (drop f ls) number n
+      at_first f n e d hit = subst (λ (x : ℕ). Hit (drop x ls) number n) (sym e) (subst (λ (x : ℕ). Hit (drop tried ls) number x) (sym d) hit)
+
+-- where every first line was tried, the best run is what is asked for
+pub sought_answers : {ls : List (List ℕ)} {number tried : ℕ} (first : Option ℕ) (most limit : ℕ) → Sought ls number tried first most → length ls ≤ tried → 0 < number → length ls ≤ limit
+    → Answers ls number limit (run_from first most)
+sought_answers None most limit g all real fits =
+    (fits, λ f m d. g.shorter (f - 1) m (omega (arith, d.within, d.some)) d.some (omega (arith, d.within, g.none refl)) d.within d.draws)
+sought_answers (Some first) most limit g all real fits =
+    let h = g.found first refl in (
+      fits,
+      record {
+        is = record { refuses = real; begins = h.0; some = omega arith; within = omega (arith, h.0, h.2); draws = h.3 };
+        shortest = λ f m d. ⊎_elim (λ lt. absurd (g.shorter (f - 1) m (omega (arith, d.within, d.some)) d.some (omega arith) d.within d.draws)) (λ ge. ge) (less_or m (most + 1));
+        earliest = λ f d. ⊎_elim (λ lt. absurd (g.earlier first (f - 1) refl (omega (arith, d.begins)) d.within d.draws)) (λ ge. ge) (less_or f first);
+      },
+    )
 
 -- a better run has no more lines than there are
-pub sought_most : {ls : List (List ℕ)} {number tried first most : ℕ} → Sought ls number tried first most → most ≤ length ls
-sought_most {first = first} g = ⊎_elim (λ lt. let e = g.none (omega arith) in omega arith) (λ ge. let w = (g.found ge).1 in omega arith) (less_or first 1)
+pub sought_most : {ls : List (List ℕ)} {number tried : ℕ} (first : Option ℕ) (most : ℕ) → Sought ls number tried first most → most ≤ length ls
+sought_most None most g = let e = g.none refl in omega arith
+sought_most (Some first) most g = let h = g.found first refl in omega (arith, h.2)

@@ -1,39 +1,68 @@
 // The shortest run of a trace's lines that still draws a refusal (document 02, (h) and (i)).
 #![tactic(auto)]
 
-ghost use Rattle.std.specs.Prelude.{◌≡◌, true, ◌+◌, ◌*◌, ◌≤◌, length, drop};
+ghost use Rattle.std.specs.Prelude.{◌≡◌, true, ◌+◌, ◌*◌, ◌≤◌, ◌<◌, IfSome, length};
 ghost use Rattle.lines.specs.Lines.{lines_in};
-ghost use Rattle.search.specs.Shortest.{Answers, shortest_of, one_number};
+ghost use Rattle.search.specs.Shortest.{Answers, refusal_of, shortest_of, one_number};
 ghost use Rattle.search.specs.Search.{Met, Sought, kept_of, found_of};
 
-use lines::ends::{line_end, past};
+use lines::each::Lines;
 use player::Player;
+use refusals::{Refusal, number_ended};
+use std::fmt;
 
-// The first line of a run, from 1, and its length; or a refusal.
-#[derive(Clone, Copy)]
-pub enum Found {
-    At(usize, usize),
-    Refused(u8),
+// A run of lines: its first line, from 1, and how many they are.
+#[derive(Clone, Copy, Debug, PartialEq, Eq)]
+pub struct Run {
+    pub first: usize,
+    pub length: usize,
+}
+
+// Why no run is found: there are more lines than the limit, or no run draws the number.
+#[derive(Clone, Copy, Debug, PartialEq, Eq)]
+pub enum Unfound {
+    LongTrace,
+    NotDrawn,
+}
+
+impl Unfound {
+    pub fn refusal(self) -> Refusal
+        ensures { result ≡ refusal_of self }
+    {
+        match self {
+            Unfound::LongTrace => Refusal::LongTrace,
+            Unfound::NotDrawn => Refusal::NotDrawn,
+        }
+    }
+}
+
+impl fmt::Display for Unfound {
+    fn fmt<W: fmt::Write>(&self, f: &mut fmt::Formatter<W>) -> fmt::Result {
+        f.write_str(match self {
+            Unfound::LongTrace => "more lines than the limit",
+            Unfound::NotDrawn => "no run draws the number",
+        })
+    }
 }
 
 // What a search found, and how many lines were played for it.
 #[derive(Clone, Copy)]
 pub struct Searched {
-    pub found: Found,
+    pub found: Result<Run, Unfound>,
     pub plays: usize,
 }
 
-// How many lines were played, and how many of them up to one that draws the number; 0 where none does.
+// How many lines were played, and how many of them up to one that draws the number.
 #[derive(Clone, Copy)]
 struct Play {
     lines: usize,
-    drawn: usize,
+    drawn: Option<usize>,
 }
 
-// The best run so far: its first line, from 1, or 0 for none; and the most lines that a better run has.
+// The best run so far: its first line, from 1; and the most lines that a better run has.
 #[derive(Clone, Copy)]
 struct Best {
-    first: usize,
+    first: Option<usize>,
     most: usize,
 }
 
@@ -48,67 +77,61 @@ struct Tried {
 fn count_lines(trace: &[u8]) -> usize
     ensures { result ≡ length (lines_in true trace.now) }
 {
-    let mut lines = 0usize;
-    let mut at = 0usize;
-    while at < trace.len() {
-        let end = line_end(trace, at);
-        lines += 1;
-        at = past(end, trace.len());
+    Lines {
+        rest: trace,
+        ended: true,
     }
-    lines
+    .count()
 }
 
-// Plays the lines from a place until one draws the number, at most so many.
-fn play_from(trace: &[u8], from: usize, number: u8, most: usize) -> Play
-    ensures { Met (lines_in true (drop from trace.now)) number most result.drawn × (result.lines ≤ length (lines_in true (drop from trace.now))) }
+// Plays lines until one draws the number, at most so many.
+fn play_from(lines: Lines, number: u8, most: usize) -> Play
+    ensures { Met (lines_in lines.entry.ended lines.entry.rest.now) number most result.drawn × (result.lines ≤ length (lines_in lines.entry.ended lines.entry.rest.now)) }
 {
     let mut host = Player::new().host;
-    let mut at = from;
-    let mut lines = 0usize;
-    while lines < most {
-        if trace.len() <= at {
-            return Play { lines, drawn: 0 };
-        }
-        let end = line_end(trace, at);
-        let answer = host.answer(&trace[at..end]);
-        lines += 1;
-        if answer.refusal == number {
+    let mut played = 0usize;
+    for line in lines.take(most) {
+        let answer = host.answer(line);
+        played += 1;
+        if number_ended(answer.answer) == number {
             return Play {
-                lines,
-                drawn: lines,
+                lines: played,
+                drawn: Some(played),
             };
         }
         host = answer.host;
-        at = past(end, trace.len());
     }
-    Play { lines, drawn: 0 }
+    Play {
+        lines: played,
+        drawn: None,
+    }
 }
 
 impl Best {
-    // After a further first line, from which so many lines draw the number, or none for 0.
-    fn kept(self, first: usize, drawn: usize) -> Best
+    // After a further first line, from which so many lines draw the number.
+    fn kept(self, first: usize, drawn: Option<usize>) -> Best
+        requires { IfSome drawn (λ n. 0 < n) }
         ensures { result ≡ kept_of self first drawn }
     {
-        if drawn == 0 {
-            self
-        } else {
-            Best {
-                first,
+        match drawn {
+            Some(drawn) => Best {
+                first: Some(first),
                 most: drawn - 1,
-            }
+            },
+            None => self,
         }
     }
 
     // Where every first line was tried.
-    fn found(self) -> Found
+    fn found(self) -> Result<Run, Unfound>
         requires { self.most ≤ 65535 }
         ensures { result ≡ found_of self }
     {
-        if self.first == 0 {
-            Found::Refused(18)
-        } else {
-            Found::At(self.first, self.most + 1)
-        }
+        let first = self.first.ok_or(Unfound::NotDrawn)?;
+        Ok(Run {
+            first,
+            length: self.most + 1,
+        })
     }
 }
 
@@ -118,19 +141,19 @@ fn best_run(trace: &[u8], number: u8, lines: usize) -> Tried
     ensures { Sought (lines_in true trace.now) number lines result.best.first result.best.most × (2 * result.plays ≤ lines * (lines + 1)) }
 {
     let mut best = Best {
-        first: 0,
+        first: None,
         most: lines,
     };
     let mut plays = 0usize;
-    let mut at = 0usize;
-    let mut first = 0usize;
-    while at < trace.len() {
-        let play = play_from(trace, at, number, best.most);
+    let mut left = Lines {
+        rest: trace,
+        ended: true,
+    };
+    for tried in 0..lines {
+        let play = play_from(left, number, best.most);
         plays += play.lines;
-        first += 1;
-        best = best.kept(first, play.drawn);
-        let end = line_end(trace, at);
-        at = past(end, trace.len());
+        best = best.kept(tried + 1, play.drawn);
+        left.next();
     }
     Tried { best, plays }
 }
@@ -143,13 +166,13 @@ pub fn shortest(trace: &[u8], number: u8, limit: u16) -> Searched
     let lines = count_lines(trace);
     if (limit as usize) < lines {
         return Searched {
-            found: Found::Refused(17),
+            found: Err(Unfound::LongTrace),
             plays: 0,
         };
     }
     if number == 0 {
         return Searched {
-            found: Found::Refused(18),
+            found: Err(Unfound::NotDrawn),
             plays: 0,
         };
     }
@@ -166,10 +189,8 @@ pub fn shortest(trace: &[u8], number: u8, limit: u16) -> Searched
 pub extern "C" fn shortest_run(trace: &[u8], number: u8, limit: u16) -> u64
     ensures { result ≡ one_number (shortest_of (lines_in true trace.now) number limit) }
 {
-    let done = shortest(trace, number, limit);
-    let found = done.found;
-    match found {
-        Found::At(first, length) => first as u64 * 65536 + length as u64,
-        Found::Refused(refusal) => refusal as u64,
+    match shortest(trace, number, limit).found {
+        Ok(run) => run.first as u64 * 65536 + run.length as u64,
+        Err(why) => why.refusal().number() as u64,
     }
 }

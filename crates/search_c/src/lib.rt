@@ -1,4 +1,6 @@
 // The search for the shortest run as a static library, for a Rust host.
+// The names and signatures are those that C links and may not change, and a static library is a crate of its own: so each export stands here and in the
+// library search.
 #![tactic(auto)]
 
 ghost use Rattle.std.specs.Prelude.{◌≡◌, true};

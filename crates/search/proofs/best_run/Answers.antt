@@ -1,59 +1,56 @@
--- `search::best_run` meets its contract: the best run is that of the first lines tried, and the lines from the place on are those after them.
+-- `search::best_run` meets its contract: the best run is that of the first lines tried, and the lines that are left are those after them.
 -- Assumes nothing.
--- what was played lies within the lines from the place on
 use mathlib.Core.Path.{◌≡◌, sym, subst}
 use mathlib.Core.Bool.{true}
 use mathlib.Core.List.{List}
-use Prim.Native.Nat.{ℕ, ◌+◌, ◌*◌, ◌≤◌}
+use Prim.Native.Nat.{ℕ, ◌+◌, ◌-◌, ◌*◌, ◌≤◌, ◌<◌}
 use native.Mathlib.Omega.{arith}
-use lib.ListN.{length, drop}
+use lib.ListN.{length}
 use Rattle.lines.specs.Lines.{lines_in}
 use Rattle.search.specs.declared.Best.{Best}
 use Rattle.search.specs.Search.{Met, Sought}
-use Rattle.search.proofs.SearchLaws.{Stands, stands, stands_end, stands_next, stands_within, few_none, few_on, few_fit, sought_none_yet, sought_on}
+use Rattle.search.proofs.SearchLaws.{all_left, left_after, few_none, few_on, few_fit, sought_none_yet, sought_on, met_some}
 use Rattle.search.proofs.best_run.Goals as goal
 
-played : {s : List ℕ} {ls : List (List ℕ)} {at n : ℕ} {lines : ℕ} → Stands s ls at n → lines ≤ length (lines_in true (drop at s)) → lines ≤ length (drop n ls)
-played {lines = lines} g h = subst (λ (l : List (List ℕ)). lines ≤ length l) g.lines_are h
+-- the same of the lines from a number on
+played : {left ls : List (List ℕ)} (lines : ℕ) → left ≡ ls → lines ≤ length left → lines ≤ length ls
+played lines e h = subst (λ (l : List (List ℕ)). lines ≤ length l) e h
 
-pub loop-at-init : goal.loop-at-init
-loop-at-init c = (stands c.args.trace.now 0, sought_none_yet _ _ _ c.requires.0, few_none _)
+pub loop-tried-init : goal.loop-tried-init
+loop-tried-init c = (all_left _, sought_none_yet _ _ _ c.requires.0, few_none _)
 
 pub overflow_add-plays : goal.overflow_add-plays
 overflow_add-plays c =
-    let v = c.loop-at in
-    let some = stands_within v.invariant.0 c.loop-at-test.true in
+    let v = c.loop-tried in
     let d = c.play_from-play in
     let p = c.requires in
-    let f = few_fit v.invariant.2 d.result.lines some (played v.invariant.0 d.ensures.1) (omega arith) in
+    let f = few_fit v.invariant.2 d.result.lines (omega (arith, c.loop-tried-test.true, p.0)) (played d.result.lines v.invariant.0.lines_are d.ensures.1) (omega arith) in
     omega arith
 
-pub overflow_add-first : goal.overflow_add-first
-overflow_add-first c = let w = stands_within c.loop-at.invariant.0 c.loop-at-test.true in let p = c.requires in omega arith
+pub kept-best-requires : goal.kept-best-requires
+kept-best-requires c = met_some _ c.play_from-play.ensures.0
 
-pub loop-at-smaller : goal.loop-at-smaller
-loop-at-smaller c = let e = c.line_end-end.ensures in let p = c.past-at.ensures in omega arith
-
-pub loop-at-preserved : goal.loop-at-preserved
-loop-at-preserved c =
-    let v = c.loop-at in
-    let some = c.loop-at-test.true in
+pub loop-tried-preserved : goal.loop-tried-preserved
+loop-tried-preserved c =
+    let v = c.loop-tried in
     let d = c.play_from-play in
-    let e = c.line_end-end in
-    let p = c.past-at in
-    let a = c.args in (
-      stands_next v.invariant.0 e.result p.result some e.ensures p.ensures,
-      subst (λ (x : Best). Sought (lines_in true a.trace.now) a.number (v.first + 1) x.first x.most) (sym c.kept-best.ensures)
-          (sought_on v.invariant.1 d.result.drawn (subst (λ (l : List (List ℕ)). Met l a.number v.best.most d.result.drawn) v.invariant.0.lines_are d.ensures.0) (stands_within v.invariant.0 some)),
-      few_on v.invariant.2 d.result.lines (stands_within v.invariant.0 some) (played v.invariant.0 d.ensures.1),
+    let r = c.requires in
+    let some = c.loop-tried-test.true in
+    let within : v.tried < length (lines_in true c.args.trace.now) = omega (arith, some, r.0) in
+    let ls = lines_in true c.args.trace.now in (
+      left_after v.invariant.0 _ c.next.result within c.next.ensures.steps,
+      subst (λ (x : Best). Sought ls c.args.number (v.tried + 1) x.first x.most) (sym c.kept-best.ensures)
+          (sought_on v.invariant.1 within d.result.drawn (subst (λ (l : List (List ℕ)). Met l c.args.number v.best.most d.result.drawn) v.invariant.0.lines_are d.ensures.0)),
+      few_on v.invariant.2 d.result.lines within (played d.result.lines v.invariant.0.lines_are d.ensures.1),
     )
 
 pub returns : goal.returns
 returns c =
-    let v = c.loop-at in
+    let v = c.loop-tried in
     let a = c.args in
-    let p = c.requires in
-    let all : v.first ≡ a.lines = let h = stands_end v.invariant.0 c.loop-at-test.false in let n = v.invariant.0.n_le in omega arith in (
+    let r = c.requires in
+    let all : v.tried ≡ a.lines = omega (arith, c.loop-tried-test.false, v.auto.tried-end) in
+    let none : length (lines_in true a.trace.now) - v.tried ≡ 0 = omega (arith, r.0) in (
       subst (λ (x : ℕ). Sought (lines_in true a.trace.now) a.number x v.best.first v.best.most) all v.invariant.1,
-      subst (λ (n : ℕ). 2 * v.plays ≤ n * (n + 1)) (sym p.0) (let f = v.invariant.2.few in omega arith),
+      subst (λ (n : ℕ). 2 * v.plays ≤ n * (n + 1)) (sym r.0) (let f = v.invariant.2.few in omega (arith, f)),
     )

