@@ -5,35 +5,29 @@ use mathlib.Core.Bool.{Bool, true, false, cond}
 use mathlib.Core.Path.{◌≡◌, refl, subst}
 use lib.Dec.{leb}
 use borrow.Author.Tests.{leb-false}
+use Rattle.std.specs.Prelude.{Option, None, Some, Result, Ok, Err}
 use Rattle.lines.specs.declared.Call.{Call}
 use Rattle.lines.specs.Lines.{may_follow}
-use Rattle.script.specs.declared.Next.{Next}
-use Rattle.script.specs.declared.Next.TheVariants.{NoLine, Malformed, Calls}
-use Rattle.bench.specs.declared.Place.{Place}
-use Rattle.script.specs.declared.Judged.{Judged}
-use Rattle.script.specs.declared.Judged.TheVariants as judged
-use Rattle.bench.specs.Steps.{judged_as, judged_by}
+use Rattle.time.specs.declared.Time.{Time}
+use Rattle.script.specs.declared.Unplayed.{Unplayed}
+use Rattle.script.specs.declared.Unplayed.TheVariants.{Unread, Early}
+use Rattle.script.specs.Script.{judged_as, judged_by}
 
--- the unit of a line that isn't refused 4
-abbrev Names : ℕ → Judged → Type 0
-Names count judged.NoLine = Unit {0}
-Names count judged.Unread = Unit {0}
-Names count (judged.Early u) = u < count
-Names count (judged.Plays u c) = u < count
+-- the unit of a line that isn't refused 4 is below the number of units
+abbrev pub Below : ℕ → Result (ℕ × Call) Unplayed → Type 0
+Below count (Ok x) = x.0 < count
+Below count (Err Unread) = Unit {0}
+Below count (Err (Early u)) = u < count
 
-there : (count : ℕ) (n : Next) (p : Place) → Names count (judged_by count n p)
+there : (count : ℕ) (line : Option (ℕ × Call)) (last : Option Time) → Below count (judged_by count line last)
 unfolding judged_by judged_as
-there count NoLine p = tt
-there count Malformed p = tt
-there count (Calls u c) p = go (leb count u) refl (may_follow p.last c.time)
+there count None last = tt
+there count (Some (u, c)) last = go (leb count u) refl (may_follow last c.time)
   where
-    go : (b : Bool) → leb count u ≡ b → (f : Bool) → Names count (cond b judged.Unread (cond f (judged.Plays u c) (judged.Early u)))
+    go : (b : Bool) → leb count u ≡ b → (f : Bool) → Below count (cond b (Err Unread) (cond f (Ok (u, c)) (Err (Early u))))
     go true e f = tt
     go false e true = leb-false count u e
     go false e false = leb-false count u e
 
-pub early_below : (count u : ℕ) (n : Next) (p : Place) → judged_by count n p ≡ judged.Early u → u < count
-early_below count u n p e = subst (Names count) e (there count n p)
-
-pub plays_below : (count u : ℕ) (c : Call) (n : Next) (p : Place) → judged_by count n p ≡ judged.Plays u c → u < count
-plays_below count u c n p e = subst (Names count) e (there count n p)
+pub below : (count : ℕ) (line : Option (ℕ × Call)) (last : Option Time) (r : Result (ℕ × Call) Unplayed) → judged_by count line last ≡ r → Below count r
+below count line last r e = subst (Below count) e (there count line last)

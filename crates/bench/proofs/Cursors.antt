@@ -1,5 +1,6 @@
 -- Where a script has its next line, and the lines after it.
 -- Assumes nothing.
+use Rattle.std.specs.Prelude.{None, Some}
 use Prim.Native.Nat.{ℕ, zero, suc, ◌+◌, ◌-◌, ◌≤◌, ◌<◌, min}
 use mathlib.Core.Bool.{true}
 use mathlib.Core.List.{List, [], ◌∷◌}
@@ -10,7 +11,6 @@ use lib.ListN.{length, take, drop}
 use Rattle.lines.specs.Lines.{lines_in, line_length}
 use Rattle.lines.specs.LineLaws.{line_within, line_next, lines_end, take_next}
 use Rattle.lines.specs.NumberLaws.{below_or_not}
-use Rattle.script.specs.declared.Next.TheVariants.{NoLine}
 use Rattle.script.specs.Script.{line_of, next_of}
 use Rattle.bench.specs.Cursor.{next_at, left}
 
@@ -28,11 +28,11 @@ left_over s at n h = ap (λ (k : ℕ). take k (lines_in true (drop at s))) (none
     none : (n : ℕ) → 1000000 ≤ n → 1000000 - n ≡ 0
     none n h = omega arith
 
-pub next_end : (s : List ℕ) (at n : ℕ) → length s ≤ at → next_at s at n ≡ NoLine
+pub next_end : (s : List ℕ) (at n : ℕ) → length s ≤ at → next_at s at n ≡ None
 unfolding next_at
 next_end s at n h = ap next_of (left_end s at n h)
 
-pub next_over : (s : List ℕ) (at n : ℕ) → 1000000 ≤ n → next_at s at n ≡ NoLine
+pub next_over : (s : List ℕ) (at n : ℕ) → 1000000 ≤ n → next_at s at n ≡ None
 unfolding next_at
 next_over s at n h = ap next_of (left_over s at n h)
 
@@ -46,9 +46,9 @@ left_line s at n h m =
     ap (take (1000000 - n)) (line_next true s at (end s at) h refl (line_within s at (end s at) h refl) refl)
     ∙ take_next n (take (end s at - at) (drop at s)) (lines_in true (drop (min (length s) (end s at + 1)) s)) m
 
-pub next_line : (s : List ℕ) (at n e : ℕ) → at < length s → n < 1000000 → e ≡ end s at → next_at s at n ≡ line_of (take (e - at) (drop at s))
+pub next_line : (s : List ℕ) (at n e : ℕ) → at < length s → n < 1000000 → e ≡ end s at → next_at s at n ≡ Some (line_of (take (e - at) (drop at s)))
 unfolding next_at
-next_line s at n e h m f = ap next_of (left_line s at n h m) ∙ ap (λ (x : ℕ). line_of (take (x - at) (drop at s))) (sym f)
+next_line s at n e h m f = ap next_of (left_line s at n h m) ∙ ap (λ (x : ℕ). Some (line_of (take (x - at) (drop at s)))) (sym f)
 
 -- a line answered
 pub left_after : (s : List ℕ) (at n : ℕ) → drop 1 (left s at n) ≡ left s (min (length s) (end s at + 1)) (n + 1)

@@ -2,7 +2,7 @@
 -- Assumes nothing.
 use Prim.Native.Nat.{ℕ, zero, suc, ◌+◌, ◌-◌, ◌*◌, ◌≤◌, ◌<◌}
 use Rattle.std.proofs.Math.Bool.{Bool, true, false, cond}
-use Rattle.std.specs.Prelude.{◌&&◌, ◌||◌, ◌≡◌, leb, ltb, drop, get_or, set}
+use Rattle.std.specs.Prelude.{◌&&◌, ◌||◌, ◌≡◌, leb, ltb, drop, get_or, set, Option, None, Some, Ok, Err, Result, ⊤}
 use Rattle.std.proofs.Common.{true≢false, sym, ◌∙◌}
 use Rattle.std.proofs.lemmas.Bool.{false≢true}
 use mathlib.Core.List.{List, [], ◌∷◌, append-nil}
@@ -13,18 +13,14 @@ use Rattle.std.proofs.Math.ListN.{length}
 use borrow.Author.Tests.{leb-true, leb-false, le-ltb}
 use Rattle.bus.specs.declared.Levels.{Levels}
 use Rattle.clocks.specs.declared.Clocks.{Clocks}
-use Rattle.clocks.specs.declared.wait.Deadline.{Deadline}
-use Rattle.clocks.specs.declared.wait.Deadline.TheVariants.{Never, At, Refused}
 use Rattle.time.specs.declared.Time.{Time}
 use Rattle.time.specs.Time.{same_time}
 use Rattle.time.specs.Truths.{by_cases, either}
 use Rattle.iic.specs.declared.Iic.{Iic}
 use Rattle.iic.specs.State.{default_iic}
-use Rattle.lines.specs.declared.Last.{Last}
 use Rattle.answers.specs.declared.Shown.{Shown}
 use Rattle.answers.specs.declared.Shown.TheVariants.{Nobody}
 use Rattle.lines.specs.declared.Verb.TheVariants.{Visit}
-use Rattle.lines.specs.Lines.{may_follow}
 use Rattle.lines.specs.NumberLaws.{below_or_not}
 use Rattle.answers.specs.Calls.{outcome_of}
 use Rattle.bench.specs.declared.Bench.{Bench}
@@ -33,27 +29,26 @@ use Rattle.bench.specs.declared.Doing.TheVariants.{Looks, Visits, Plays, Reports
 use Rattle.bench.specs.declared.Place.{Place}
 use Rattle.bench.specs.declared.Step.{Step}
 use Rattle.bench.specs.declared.Turn.{Turn}
-use Rattle.script.specs.declared.Next.{Next}
-use Rattle.script.specs.declared.Next.TheVariants.{NoLine, Malformed, Calls}
-use Rattle.script.specs.declared.Judged.{Judged}
-use Rattle.script.specs.declared.Judged.TheVariants as judged
 use Rattle.bench.specs.Bench.{Run, after, enough, has_ended, next, ran, start, with_step}
 use Rattle.bench.specs.MomentLaws.{left, moment_due, next_from, no, none_from, same_self}
 use Rattle.bench.specs.Measure.{due_from, line_due, most_of, steps_by, steps_left, unit_due}
 use Rattle.script.specs.Script.{next_of}
-use Rattle.bench.specs.Steps.{goes, goes_to, judged_as, judged_by, look_of, play_now_of, play_of, reports_of, seek_by, seek_of, step_by, step_of, to_reports, turned, turned_away, unless_bad, unmarked, visits_of}
+use Rattle.bench.specs.Steps.{Judged, goes, goes_to, judged_by, look_of, play_now_of, play_of, reports_of, seek_by, seek_of, step_by, step_of, to_reports, turned, turned_away, unless_bad, unmarked, visits_of}
 use Rattle.bench.specs.Turns.{passed_by, play_line_of, played_by, report_of, set_doing, shown_by, visit_due_of, visit_of, visited_by}
 use Rattle.bench.specs.Moments.{fresh_bench, moment_of, mark_of, state_at}
 use Rattle.units.specs.Units.{is_named, is_present}
+use Rattle.script.specs.declared.Unplayed.TheVariants.{Unread, Early}
+use Rattle.script.specs.Script as Script
+use Rattle.lines.specs.declared.Call.{Call}
+use Rattle.refusals.specs.declared.Refusal.{Refusal}
+use Rattle.refusals.specs.declared.Refusal.TheVariants as refusal
 
 -- ## Each step leaves fewer steps
 
 -- how a line is judged depends on the last one alone
-judged_same : (count : ℕ) (n : Next) (p q : Place) → p.last ≡ q.last → judged_by count n p ≡ judged_by count n q
-unfolding judged_by judged_as
-judged_same count NoLine p q e = refl
-judged_same count Malformed p q e = refl
-judged_same count (Calls u c) p q e = ap (λ (l : Last). cond (leb count u) judged.Unread (cond (may_follow l c.time) (judged.Plays u c) (judged.Early u))) e
+judged_same : (count : ℕ) (n : Option (Option (ℕ × Call))) (p q : Place) → p.last ≡ q.last → judged_by count n p ≡ judged_by count n q
+judged_same count None p q e = refl
+judged_same count (Some line) p q e = ap (λ (l : Option Time). Some (Script.judged_by count line l)) e
 
 three : (b : Bool) → (3 ≤ cond b 3 18) × (cond b 3 18 ≤ 18)
 three true = (omega arith, omega arith)
@@ -88,13 +83,12 @@ module _ (k : Clocks) (count : ℕ) (small : count ≤ 4) (free number : ℕ) (l
   abbrev then : Step → ℕ
   then s = steps_left k count s.bench (cond s.answered (drop 1 ls) ls)
 
-  ends : (n m : ℕ) (c : Bench) → 0 < m → then (goes (Ended n) c) < m
+  ends : (n : Result ⊤ Refusal) (m : ℕ) (c : Bench) → 0 < m → then (goes (Ended n) c) < m
   unfolding steps_left
   ends n m c h = h
 
   -- a line that is answered was there
-  fewer : (x : Judged) → j ≡ x → (x ≡ judged.NoLine → ⊥) → 16 + most_of b (drop 1 ls) ≡ most_of b ls
-  unfolding judged_by
+  fewer : (x : Judged) → j ≡ x → (x ≡ None → ⊥) → 16 + most_of b (drop 1 ls) ≡ most_of b ls
   fewer x e n = go ls e
     where
       go : (l : List (List ℕ)) → judged_by count (next_of l) b.place ≡ x → 16 + most_of b (drop 1 l) ≡ most_of b l
@@ -104,16 +98,16 @@ module _ (k : Clocks) (count : ℕ) (small : count ≤ 4) (free number : ℕ) (l
           sum : (v n : ℕ) → 16 + 16 * (v + n) ≡ 16 * (v + suc n)
           sum v n = omega arith
 
-  away_less : (refusal : ℕ) (shown : Shown) (m : ℕ) → 0 < m → steps_left k count b (drop 1 ls) < m → then (turned_away refusal shown number free b) < m
+  away_less : (why : Refusal) (shown : Shown) (m : ℕ) → 0 < m → steps_left k count b (drop 1 ls) < m → then (turned_away why shown number free b) < m
   unfolding turned_away
-  away_less refusal shown m h g = either (λ (s : Step). then s < m) (ltb free 80) (ends 6 m b h) g
+  away_less why shown m h g = either (λ (s : Step). then s < m) (ltb free 80) (ends (Err refusal.NoRoom) m b h) g
 
   -- going to a moment
-  seek_less : (p : Last) (line : Deadline) → ((t : Time) → line ≡ At t → line_due t j ≡ true) → then (seek_of k count p line b) < most_of b ls + 8
+  seek_less : (p : Option Time) (line : Result (Option Time) Refusal) → ((t : Time) → line ≡ Ok (Some t) → line_due t j ≡ true) → then (seek_of k count p line b) < most_of b ls + 8
   unfolding seek_of goes_to steps_left unmarked
   seek_less p line due = go (moment_of k count p line b) refl
     where
-      there : (t : Time) (c : Bool) → is_present p t ≡ c → moment_of k count p line b ≡ At t
+      there : (t : Time) (c : Bool) → is_present p t ≡ c → moment_of k count p line b ≡ Ok (Some t)
           → (due_from (unit_due k count t (left k count p t b c)) 0 || line_due t j) ≡ true
       there t c f e = ⊎_elim (λ h. ap (λ (x : Bool). x || line_due t j) h) (λ h. ap (λ (x : Bool). due_from (unit_due k count t (left k count p t b c)) 0 || x) (due t h) ∙ yes (due_from (unit_due k count t (left k count p t b c)) 0)) (moment_due k count p t line b c f e)
         where
@@ -121,7 +115,7 @@ module _ (k : Clocks) (count : ℕ) (small : count ≤ 4) (free number : ℕ) (l
           yes true = refl
           yes false = refl
 
-      steps : (t : Time) (c : Bool) → is_present p t ≡ c → moment_of k count p line b ≡ At t → steps_left k count (left k count p t b c) ls < most_of b ls + 8
+      steps : (t : Time) (c : Bool) → is_present p t ≡ c → moment_of k count p line b ≡ Ok (Some t) → steps_left k count (left k count p t b c) ls < most_of b ls + 8
       steps t true f e =
           let d : (due_from (unit_due k count t (left k count p t b true)) 0 || line_due t j) ≡ true = there t true f e in
           simp (judged_same count (next_of ls) (left k count p t b true).place b.place refl, d) (omega arith)
@@ -129,30 +123,30 @@ module _ (k : Clocks) (count : ℕ) (small : count ≤ 4) (free number : ℕ) (l
           let d : (due_from (unit_due k count t (left k count p t b false)) 0 || line_due t j) ≡ true = there t false f e in
           simp (judged_same count (next_of ls) (left k count p t b false).place b.place refl, d) (omega arith)
 
-      go : (m : Deadline) → moment_of k count p line b ≡ m → then (seek_by p b m) < most_of b ls + 8
-      go Never e = ends 0 _ b (omega arith)
-      go (Refused n) e = ends 0 _ b (omega arith)
-      go (At t) e = by_cases (λ (s : Step). then s < most_of b ls + 8) (is_present p t) (λ f. steps t true f e) (λ f. steps t false f e)
+      go : (m : Result (Option Time) Refusal) → moment_of k count p line b ≡ m → then (seek_by p b m) < most_of b ls + 8
+      go (Ok None) e = ends (Ok tt) _ b (omega arith)
+      go (Err n) e = ends (Ok tt) _ b (omega arith)
+      go (Ok (Some t)) e = by_cases (λ (s : Step). then s < most_of b ls + 8) (is_present p t) (λ f. steps t true f e) (λ f. steps t false f e)
 
   -- the steps left where the doing is known
   left_by : (c : Bench) (l : List (List ℕ)) (d : Doing) → c.place.doing ≡ d → steps_left k count c l ≡ steps_by k count c (judged_by count (next_of l) c.place) (most_of c l) d
   unfolding steps_left
   left_by c l d e = ap (steps_by k count c (judged_by count (next_of l) c.place) (most_of c l)) e
 
-  look_less : (p : Last) → b.place.doing ≡ Looks p → then (look_of k count free number (next_of ls) p b) < most_of b ls + 8
+  look_less : (p : Option Time) → b.place.doing ≡ Looks p → then (look_of k count free number (next_of ls) p b) < most_of b ls + 8
   unfolding look_of
   look_less p e = go j refl
     where
-      less : (x : Judged) → j ≡ x → (x ≡ judged.NoLine → ⊥) → steps_left k count b (drop 1 ls) < most_of b ls + 8
+      less : (x : Judged) → j ≡ x → (x ≡ None → ⊥) → steps_left k count b (drop 1 ls) < most_of b ls + 8
       less x f n = let g : steps_left k count b (drop 1 ls) ≡ most_of b (drop 1 ls) + 8 = left_by b (drop 1 ls) (Looks p) e in omega (arith, g, fewer x f n)
 
-      go : (x : Judged) → j ≡ x → then (unless_bad number free b (seek_of k count p Never b) (λ u c. seek_of k count p (At c.time) b) x) < most_of b ls + 8
-      go judged.NoLine f = seek_less p Never (λ t g. absurd (let z : ◌≡◌ {A = ℕ} 0 1 = cc in omega arith))
-      go judged.Unread f = away_less 4 Nobody _ (omega arith) (less judged.Unread f (λ g. let z : ◌≡◌ {A = ℕ} 0 1 = cc in omega arith))
-      go (judged.Early u) f = away_less 5 (shown_by u (state_at b u)) _ (omega arith) (less (judged.Early u) f (λ g. let z : ◌≡◌ {A = ℕ} 0 1 = cc in omega arith))
-      go (judged.Plays u c) f = seek_less p (At c.time) (λ t g. ap (line_due t) f ∙ due t g)
+      go : (x : Judged) → j ≡ x → then (unless_bad number free b (seek_of k count p (Ok None) b) (λ u c. seek_of k count p (Ok (Some c.time)) b) x) < most_of b ls + 8
+      go None f = seek_less p (Ok None) (λ t g. absurd (let z : ◌≡◌ {A = ℕ} 0 1 = cc in omega arith))
+      go (Some (Err Unread)) f = away_less refusal.Malformed Nobody _ (omega arith) (less (Some (Err Unread)) f (λ g. let z : ◌≡◌ {A = ℕ} 0 1 = cc in omega arith))
+      go (Some (Err (Early u))) f = away_less refusal.NotLater (shown_by u (state_at b u)) _ (omega arith) (less (Some (Err (Early u))) f (λ g. let z : ◌≡◌ {A = ℕ} 0 1 = cc in omega arith))
+      go (Some (Ok (u, c))) f = seek_less p (Ok (Some c.time)) (λ t g. ap (line_due t) f ∙ due t g)
         where
-          due : (t : Time) → At c.time ≡ At t → same_time c.time t ≡ true
+          due : (t : Time) → ◌≡◌ {A = Result (Option Time) Refusal} (Ok (Some c.time)) (Ok (Some t)) → same_time c.time t ≡ true
           due t g = let same : c.time ≡ t = cc in subst (λ (x : Time). same_time c.time x ≡ true) same (same_self c.time)
 
   visits_less : (t : Time) (u : ℕ) → then (visits_of k count free t u b) < most_of b ls + (cond (due_from (unit_due k count t b) u || line_due t j) 3 18 + (4 - u))
@@ -194,7 +188,7 @@ module _ (k : Clocks) (count : ℕ) (small : count ≤ 4) (free number : ℕ) (l
   play_less t e = go j refl
     where
       -- after a line
-      fewer_left : (x : Judged) → j ≡ x → (x ≡ judged.NoLine → ⊥) → (c : Bench) → c.place.doing ≡ Plays t → c.place.visits ≡ b.place.visits
+      fewer_left : (x : Judged) → j ≡ x → (x ≡ None → ⊥) → (c : Bench) → c.place.doing ≡ Plays t → c.place.visits ≡ b.place.visits
           → steps_left k count c (drop 1 ls) < most_of b ls + 2
       fewer_left x f n c g v =
           let due : Bool = line_due t (judged_by count (next_of (drop 1 ls)) c.place) in
@@ -203,10 +197,10 @@ module _ (k : Clocks) (count : ℕ) (small : count ≤ 4) (free number : ℕ) (l
           omega (arith, (two due).1, fewer x f n)
 
       go : (x : Judged) → j ≡ x → then (unless_bad number free b (to_reports count t b) (λ u c. play_now_of k count free number t u c b) x) < most_of b ls + cond (line_due t x) 2 17
-      go judged.NoLine f = omega arith
-      go judged.Unread f = away_less 4 Nobody _ (omega arith) (fewer_left judged.Unread f (λ g. let z : ◌≡◌ {A = ℕ} 0 1 = cc in omega arith) b e refl)
-      go (judged.Early u) f = away_less 5 (shown_by u (state_at b u)) _ (omega arith) (fewer_left (judged.Early u) f (λ g. let z : ◌≡◌ {A = ℕ} 0 1 = cc in omega arith) b e refl)
-      go (judged.Plays u c) f = now (same_time c.time t)
+      go None f = omega arith
+      go (Some (Err Unread)) f = away_less refusal.Malformed Nobody _ (omega arith) (fewer_left (Some (Err Unread)) f (λ g. let z : ◌≡◌ {A = ℕ} 0 1 = cc in omega arith) b e refl)
+      go (Some (Err (Early u))) f = away_less refusal.NotLater (shown_by u (state_at b u)) _ (omega arith) (fewer_left (Some (Err (Early u))) f (λ g. let z : ◌≡◌ {A = ℕ} 0 1 = cc in omega arith) b e refl)
+      go (Some (Ok (u, c))) f = now (same_time c.time t)
         where
           played : Turn
           played = played_by c.time number u (outcome_of k c.time (state_at b u) c.verb) b.place
@@ -215,7 +209,7 @@ module _ (k : Clocks) (count : ℕ) (small : count ≤ 4) (free number : ℕ) (l
           now false = omega arith
           now true =
               either (λ (x : Turn). then (turned u x b) < most_of b ls + 2) (ltb free 80) (omega arith)
-              (fewer_left (judged.Plays u c) f (λ g. let z : ◌≡◌ {A = ℕ} 0 1 = cc in omega arith) (turned u played b).bench e refl)
+              (fewer_left (Some (Ok (u, c))) f (λ g. let z : ◌≡◌ {A = ℕ} 0 1 = cc in omega arith) (turned u played b).bench e refl)
 
   reports_less : (t : Time) (w : Levels) (u : ℕ) → then (reports_of k count free t w u b) < most_of b ls + (9 + (4 - u))
   unfolding reports_of report_of steps_left

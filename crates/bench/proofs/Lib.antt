@@ -1,5 +1,5 @@
 pub mod Below
-pub mod Judged
 pub mod Cursors
+pub mod Units
 pub mod Loops
 pub mod EndLaws

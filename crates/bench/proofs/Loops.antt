@@ -1,7 +1,8 @@
 -- The invariant of the loop over steps, and its turn.
 -- Assumes nothing.
+use Rattle.std.specs.Prelude.{None, Option}
 use Prim.Native.Nat.{ℕ, suc, ◌+◌, ◌-◌, ◌≤◌, ◌<◌}
-use mathlib.Core.Bool.{Bool, true, false, cond, not}
+use mathlib.Core.Bool.{Bool, true, false, cond}
 use mathlib.Core.List.{List, [], ◌++◌, append_assoc}
 use mathlib.Core.Logic.{⊎_elim}
 use mathlib.Core.Path.{◌≡◌, refl, sym, ap, ◌∙◌, subst}
@@ -15,8 +16,6 @@ use Rattle.lines.specs.NumberLaws.{below_or_not}
 use Rattle.answers.specs.Puts.{Put}
 use Rattle.answers.proofs.Puts.{put_within}
 use Rattle.bench.specs.declared.Bench.{Bench}
-use Rattle.script.specs.declared.Next.{Next}
-use Rattle.script.specs.declared.Next.TheVariants.{NoLine}
 use Rattle.bench.specs.declared.Step.{Step}
 use Rattle.bench.specs.declared.cursor.Cursor.{Cursor}
 use Rattle.bench.specs.Bench.{Run, after, has_ended, next, over, ran, start, summary_by, summary_of, told_text, with_step}
@@ -28,12 +27,13 @@ use Rattle.bench.specs.StepLaws.{full_quiet, none_answered}
 use Rattle.bench.specs.Steps.{step_of}
 use Rattle.bench.specs.Moments.{fresh_bench}
 use Rattle.bench.proofs.Cursors.{left_after, next_over}
+use Rattle.lines.specs.declared.Call.{Call}
 
 -- the run that the loop's variables stand for
 abbrev pub seen : List ℕ → List ℕ → Bench → Cursor → ℕ → Run
 seen script out b c written = record { bench = b; lines = left script c.at c.lines; answered = c.lines; bytes = take written out }
 
-pub record Going (k : Clocks) (count : ℕ) (script before out : List ℕ) (b : Bench) (c : Cursor) (written : ℕ) (going : Bool) : Type 0 where
+pub record Going (k : Clocks) (count : ℕ) (script before out : List ℕ) (b : Bench) (c : Cursor) (written : ℕ) : Type 0 where
   pub steps : ℕ
   pub is : after k count (length before) steps (start script) ≡ seen script out b c written
   pub written_le : written ≤ length before
@@ -41,13 +41,12 @@ pub record Going (k : Clocks) (count : ℕ) (script before out : List ℕ) (b : 
   pub rest : drop written out ≡ drop written before
   pub few : c.lines ≤ 1000000
   pub cursor : c ≡ cursor_at script c.at c.lines
-  pub goes : going ≡ not (has_ended b.place.doing)
 
-pub going : (k : Clocks) (count : ℕ) (script before : List ℕ) (b : Bench) (c : Cursor) → b ≡ fresh_bench → c ≡ cursor_at script 0 0 → Going k count script before before b c 0 true
+pub going : (k : Clocks) (count : ℕ) (script before : List ℕ) (b : Bench) (c : Cursor) → b ≡ fresh_bench → c ≡ cursor_at script 0 0 → Going k count script before before b c 0
 unfolding after fresh_bench
 going k count script before b c e f =
-    subst (λ (x : Bench). Going k count script before before x c 0 true) (sym e)
-    (subst (λ (x : Cursor). Going k count script before before fresh_bench x 0 true) (sym f)
+    subst (λ (x : Bench). Going k count script before before x c 0) (sym e)
+    (subst (λ (x : Cursor). Going k count script before before fresh_bench x 0) (sym f)
     (record {
       steps = 0;
       is = refl;
@@ -56,19 +55,13 @@ going k count script before b c e f =
       rest = refl;
       few = omega arith;
       cursor = refl;
-      goes = refl;
     }))
 
 -- ## At the end
 
-ended_by : (b g : Bool) → g ≡ not b → g ≡ false → b ≡ true
-ended_by true g e f = refl
-ended_by false g e f = sym f ∙ e
-
-pub finish : {k : Clocks} {count : ℕ} {script before out : List ℕ} {b : Bench} {c : Cursor} {written : ℕ} {g : Bool} → count ≤ 4 → Going k count script before out b c written g → g ≡ false
+pub finish : {k : Clocks} {count : ℕ} {script before out : List ℕ} {b : Bench} {c : Cursor} {written : ℕ} → count ≤ 4 → Going k count script before out b c written → has_ended b.place.doing ≡ true
     → (summary_by b written c.lines ≡ summary_of (ran k count (length before) (start script))) × (out ≡ over (ran k count (length before) (start script)) before)
-finish {k} {count} {script} {before} {out} {b} {c} {written} {g} small go e =
-    let done : has_ended b.place.doing ≡ true = ended_by (has_ended b.place.doing) g go.goes e in
+finish {k} {count} {script} {before} {out} {b} {c} {written} small go done =
     let all : ran k count (length before) (start script) ≡ seen script out b c written =
     ran_is k count (length before) small script go.steps (ap (λ (r : Run). has_ended r.bench.place.doing) go.is ∙ done) ∙ go.is in
     let many : length (take written out) ≡ written = length-take-le written out (omega (arith, go.long, go.written_le)) in (
@@ -81,7 +74,7 @@ finish {k} {count} {script} {before} {out} {b} {c} {written} {g} small go e =
 
 -- ## A turn
 
-module _ {k : Clocks} {count : ℕ} {script before out : List ℕ} {b : Bench} {c : Cursor} {written : ℕ} {g : Bool} (go : Going k count script before out b c written g) where
+module _ {k : Clocks} {count : ℕ} {script before out : List ℕ} {b : Bench} {c : Cursor} {written : ℕ} (go : Going k count script before out b c written) where
   pub many : length (take written out) ≡ written
   many = length-take-le written out (omega (arith, go.long, go.written_le))
 
@@ -96,10 +89,10 @@ module _ {k : Clocks} {count : ℕ} {script before out : List ℕ} {b : Bench} {
   few_after : (s : Step) → s ≡ step_of k count free (c.lines + 1) c.next b → s.answered ≡ true → c.lines < 1000000
   few_after s e h =
       ⊎_elim (λ l. l)
-      (λ l. absurd (clash (sym h ∙ ap (λ (x : Step). x.answered) e ∙ ap (λ (n : Next). (step_of k count free (c.lines + 1) n b).answered) (none l) ∙ none_answered k count free (c.lines + 1) b)))
+      (λ l. absurd (clash (sym h ∙ ap (λ (x : Step). x.answered) e ∙ ap (λ (n : Option (Option (ℕ × Call))). (step_of k count free (c.lines + 1) n b).answered) (none l) ∙ none_answered k count free (c.lines + 1) b)))
       (below_or_not c.lines 1000000)
     where
-      none : 1000000 ≤ c.lines → c.next ≡ NoLine
+      none : 1000000 ≤ c.lines → c.next ≡ None
       none l = ap (λ (x : Cursor). x.next) go.cursor ∙ next_over script c.at c.lines l
 
       clash : true ≡ false → ⊥
@@ -127,17 +120,13 @@ module _ {k : Clocks} {count : ℕ} {script before out : List ℕ} {b : Bench} {
   cursor_after_lem false = go.cursor
 
   -- fewer steps are left
-  pub less : count ≤ 4 → g ≡ true → (s : Step) → s ≡ step_of k count free (c.lines + 1) c.next b
+  pub less : count ≤ 4 → has_ended b.place.doing ≡ false → (s : Step) → s ≡ step_of k count free (c.lines + 1) c.next b
       → steps_left k count s.bench (left script (cursor_after s.answered script c).at (cursor_after s.answered script c).lines) < steps_left k count b (left script c.at c.lines)
   less small on s e =
       subst (λ (l : List (List ℕ)). steps_left k count s.bench l < steps_left k count b (left script c.at c.lines)) (lines_after s.answered)
       (subst (λ (x : Step). steps_left k count x.bench (cond x.answered (drop 1 (left script c.at c.lines)) (left script c.at c.lines)) < steps_left k count b (left script c.at c.lines))
-      (ap (λ (n : Next). step_of k count free (c.lines + 1) n b) next_is ∙ sym e)
-      (step_less k count small free (c.lines + 1) (left script c.at c.lines) b (going_by (has_ended b.place.doing) g go.goes on)))
-    where
-      going_by : (b g : Bool) → g ≡ not b → g ≡ true → b ≡ false
-      going_by true g e f = sym f ∙ e
-      going_by false g e f = refl
+      (ap (λ (n : Option (Option (ℕ × Call))). step_of k count free (c.lines + 1) n b) next_is ∙ sym e)
+      (step_less k count small free (c.lines + 1) (left script c.at c.lines) b on))
 
   module _ (s : Step) (s-is : s ≡ step_of k count free (c.lines + 1) c.next b) (inner : List ℕ) (r : ℕ)
       (put : Put (drop written out) inner 0 r (room_for (length (drop written out)) (told_text s.told))) (same : length inner ≡ length (drop written out)) where
@@ -177,7 +166,7 @@ module _ {k : Clocks} {count : ℕ} {script before out : List ℕ} {b : Bench} {
         ap (with_step (seen script out b c written)) (
         ap (λ (n : ℕ). step_of k count (length before - n) (c.lines + 1) (next_of (left script c.at c.lines)) b) many
         ∙ ap (λ (n : ℕ). step_of k count (n - written) (c.lines + 1) (next_of (left script c.at c.lines)) b) (sym go.long)
-        ∙ ap (λ (n : Next). step_of k count free (c.lines + 1) n b) next_is
+        ∙ ap (λ (n : Option (Option (ℕ × Call))). step_of k count free (c.lines + 1) n b) next_is
         ∙ sym s-is)
 
     seen_after : with_step (seen script out b c written) s ≡ seen script out_after s.bench (cursor_after s.answered script c) (written + r)
@@ -191,7 +180,7 @@ module _ {k : Clocks} {count : ℕ} {script before out : List ℕ} {b : Bench} {
     few_then true e = let l : c.lines < 1000000 = few_after s s-is e in omega arith
     few_then false e = go.few
 
-    pub turn : Going k count script before out_after s.bench (cursor_after s.answered script c) (written + r) (not (has_ended s.bench.place.doing))
+    pub turn : Going k count script before out_after s.bench (cursor_after s.answered script c) (written + r)
     turn = record {
       steps = suc go.steps;
       is = after_last k count (length before) go.steps (start script) ∙ ap (next k count (length before)) go.is ∙ step_at ∙ seen_after;
@@ -204,5 +193,4 @@ module _ {k : Clocks} {count : ℕ} {script before out : List ℕ} {b : Bench} {
           ∙ drop-drop r written before;
       few = few_then s.answered refl;
       cursor = cursor_after_lem s.answered;
-      goes = refl;
     }

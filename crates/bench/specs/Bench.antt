@@ -1,18 +1,19 @@
 -- Definitions: what playing a script on a bench gives (document 02, (g)).
-use Rattle.std.specs.Prelude.{ℕ, zero, suc, ◌+◌, ◌-◌, ◌*◌, Bool, true, false, cond, ◌&&◌, List, [], ◌++◌, leb, length, take, drop}
+use Rattle.std.specs.Prelude.{ℕ, zero, suc, ◌+◌, ◌-◌, ◌*◌, Bool, true, false, cond, ◌&&◌, List, [], ◌++◌, Option, None, Some, leb, length, take, drop, Result, Ok, Err, ⊤}
 use Rattle.clocks.specs.declared.Clocks.{Clocks}
 use Rattle.answers.specs.Answers.{answer_text}
+use Rattle.answers.specs.declared.Line.{Line}
 use Rattle.lines.specs.Lines.{lines_in}
 use Rattle.bench.specs.declared.Bench.{Bench}
 use Rattle.bench.specs.declared.Doing.{Doing}
 use Rattle.bench.specs.declared.Doing.TheVariants.{Looks, Visits, Plays, Reports, Ended}
 use Rattle.bench.specs.declared.Step.{Step}
 use Rattle.bench.specs.declared.Summary.{Summary}
-use Rattle.bench.specs.declared.Told.{Told}
-use Rattle.bench.specs.declared.Told.TheVariants.{Nothing, Answer}
 use Rattle.script.specs.Script.{next_of}
 use Rattle.bench.specs.Steps.{goes, step_of}
 use Rattle.bench.specs.Moments.{fresh_bench}
+use Rattle.refusals.specs.declared.Refusal.TheVariants as refusal
+use Rattle.refusals.specs.declared.Refusal.{Refusal}
 
 -- ## A run
 
@@ -27,9 +28,9 @@ pub record Run : Type 0 where
 abbrev pub start : List ℕ → Run
 start script = record { bench = fresh_bench; lines = take 1000000 (lines_in true script); answered = 0; bytes = [] }
 
-abbrev pub told_text : Told → List ℕ
-told_text Nothing = []
-told_text (Answer l) = answer_text l
+abbrev pub told_text : Option Line → List ℕ
+told_text None = []
+told_text (Some l) = answer_text l
 
 -- after a step
 abbrev pub with_step : Run → Step → Run
@@ -60,11 +61,11 @@ has_ended (Reports t w u) = false
 has_ended (Ended n) = true
 
 -- 0, 6 or 16
-abbrev pub end_of : Doing → ℕ
-end_of (Looks present) = 0
-end_of (Visits t u) = 0
-end_of (Plays t) = 0
-end_of (Reports t w u) = 0
+abbrev pub end_of : Doing → Result ⊤ Refusal
+end_of (Looks present) = Ok tt
+end_of (Visits t u) = Ok tt
+end_of (Plays t) = Ok tt
+end_of (Reports t w u) = Ok tt
 end_of (Ended n) = n
 
 -- so many steps that the bench has ended: EndLaws.antt, `it_ends`
@@ -82,14 +83,14 @@ is_count count = leb 1 count && leb count 4
 unfoldable pub bench_of : Clocks → ℕ → List ℕ → ℕ → Run
 bench_of k count script room =
     cond (is_count count) (ran k count room (start script))
-    (record { bench = (goes (Ended 15) fresh_bench).bench; lines = []; answered = 0; bytes = [] })
+    (record { bench = (goes (Ended (Err refusal.Peripherals)) fresh_bench).bench; lines = []; answered = 0; bytes = [] })
 
 -- "returns bytes written, script lines answered, the states, and 0 or the refusal"
 abbrev pub summary_by : Bench → ℕ → ℕ → Summary
 summary_by b written lines = record {
   written = written;
   lines = lines;
-  refusal = end_of b.place.doing;
+  ended = end_of b.place.doing;
   states = b.states;
 }
 

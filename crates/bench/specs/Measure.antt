@@ -1,24 +1,23 @@
 -- Definitions: how many steps a bench has at most before it ends. No paper has it: EndLaws.antt shows by it that a bench ends on every input.
-use Rattle.std.specs.Prelude.{ℕ, ◌+◌, ◌-◌, ◌*◌, Bool, true, false, cond, ◌&&◌, ◌||◌, List, leb, ltb, length}
+use Rattle.std.specs.Prelude.{ℕ, ◌+◌, ◌-◌, ◌*◌, Bool, true, false, cond, ◌&&◌, ◌||◌, List, leb, ltb, length, None, Some, Ok, Err}
 use Rattle.clocks.specs.declared.Clocks.{Clocks}
 use Rattle.time.specs.declared.Time.{Time}
 use Rattle.time.specs.Time.{same_time}
 use Rattle.bench.specs.declared.Bench.{Bench}
 use Rattle.bench.specs.declared.Doing.{Doing}
 use Rattle.bench.specs.declared.Doing.TheVariants.{Looks, Visits, Plays, Reports, Ended}
-use Rattle.script.specs.declared.Judged.{Judged}
-use Rattle.script.specs.declared.Judged.TheVariants as judged
 use Rattle.script.specs.Script.{next_of}
-use Rattle.bench.specs.Steps.{judged_by}
+use Rattle.bench.specs.Steps.{Judged, judged_by}
 use Rattle.units.specs.Units.{is_named}
 use Rattle.bench.specs.Moments.{mark_of, state_at}
+use Rattle.script.specs.declared.Unplayed.TheVariants.{Unread, Early}
 
 -- the next script line is answered in the moment: it is of that moment, or refused
 abbrev pub line_due : Time → Judged → Bool
-line_due t judged.NoLine = false
-line_due t judged.Unread = true
-line_due t (judged.Early u) = true
-line_due t (judged.Plays u c) = same_time c.time t
+line_due t None = false
+line_due t (Some (Err Unread)) = true
+line_due t (Some (Err (Early u))) = true
+line_due t (Some (Ok (u, c))) = same_time c.time t
 
 -- a unit is visited in the moment
 abbrev pub unit_due : Clocks → ℕ → Time → Bench → ℕ → Bool

@@ -2,22 +2,19 @@
 -- Assumes nothing.
 use Prim.Native.Nat.{ℕ, ◌+◌, ◌≤◌, ◌<◌}
 use Rattle.std.proofs.Math.Bool.{Bool, true, false, cond}
-use Rattle.std.specs.Prelude.{not, ◌&&◌, ◌||◌, ◌⊎◌, leb}
+use Rattle.std.specs.Prelude.{not, ◌&&◌, ◌||◌, ◌⊎◌, leb, Option, Err, None, Ok, Result, Some}
 use Rattle.std.proofs.Common.{true≢false, sym, ap, ◌∙◌, subst, arith, ltb-true, ltb-false, leb-true, leb-false, le-ltb, le-leb, eq-eqb}
 use Rattle.std.proofs.Math.Logic.{inl, inr, ⊎_elim}
 use Rattle.std.proofs.Math.Path.{◌≡◌, refl}
 use Rattle.std.proofs.Math.Dec.{ltb}
 use Rattle.std.proofs.lemmas.Bool.{lt-leb}
 use Rattle.clocks.specs.declared.Clocks.{Clocks}
-use Rattle.clocks.specs.declared.wait.Deadline.{Deadline}
-use Rattle.clocks.specs.declared.wait.Deadline.TheVariants.{Never, At, Refused}
 use Rattle.time.specs.declared.Time.{Time}
 use Rattle.time.specs.Time.{earlier, same_time, time_of}
 use Rattle.time.specs.Truths.{and_right}
 use Rattle.waits.specs.Ends.{sooner}
 use Rattle.iic.specs.declared.Iic.{Iic}
 use Rattle.iic.specs.Calls.{deadline_of}
-use Rattle.lines.specs.declared.Last.{Last}
 use Rattle.lines.specs.Lines.{may_follow}
 use Rattle.bench.specs.declared.Bench.{Bench}
 use Rattle.bench.specs.declared.Doing.TheVariants.{Visits}
@@ -25,6 +22,7 @@ use Rattle.bench.specs.Measure.{due_from, unit_due}
 use Rattle.bench.specs.Steps.{goes, unmarked}
 use Rattle.units.specs.Units.{is_named, is_present, names_by, names_of}
 use Rattle.bench.specs.Moments.{moment_of, named_by, mark_of, state_at}
+use Rattle.refusals.specs.declared.Refusal.{Refusal}
 
 -- ## Units that are due, from a number on
 
@@ -85,17 +83,20 @@ some_from f h = go (f 0) (f 1) (f 2) (f 3) h
 
 -- ## The moment that is chosen is named
 
-sooner_some : (a b : Deadline) (t : Time) → sooner a b ≡ At t → (a ≡ At t) ⊎ (b ≡ At t)
+sooner_some : (a b : Result (Option Time) Refusal) (t : Time) → sooner a b ≡ Ok (Some t) → (a ≡ Ok (Some t)) ⊎ (b ≡ Ok (Some t))
 unfolding sooner
-sooner_some Never b t e = inr e
-sooner_some (At x) Never t e = inl e
-sooner_some (At x) (At y) t e = go (earlier y x) e
+sooner_some (Ok None) b t e = inr e
+sooner_some (Ok (Some x)) (Ok None) t e = inl e
+sooner_some (Ok (Some x)) (Ok (Some y)) t e = go (earlier y x) e
   where
-    go : (c : Bool) → cond c (At y) (At x) ≡ At t → (At x ≡ At t) ⊎ (At y ≡ At t)
+    Named : Time → Type 0
+    Named u = ◌≡◌ {A = Result (Option Time) Refusal} (Ok (Some u)) (Ok (Some t))
+
+    go : (c : Bool) → ◌≡◌ {A = Result (Option Time) Refusal} (cond c (Ok (Some y)) (Ok (Some x))) (Ok (Some t)) → Named x ⊎ Named y
     go true f = inr f
     go false f = inl f
-sooner_some (At x) (Refused n) t e = absurd (let z : ◌≡◌ {A = ℕ} 0 1 = cc in omega arith)
-sooner_some (Refused n) b t e = absurd (let z : ◌≡◌ {A = ℕ} 0 1 = cc in omega arith)
+sooner_some (Ok (Some x)) (Err n) t e = absurd (let z : ◌≡◌ {A = ℕ} 0 1 = cc in omega arith)
+sooner_some (Err n) b t e = absurd (let z : ◌≡◌ {A = ℕ} 0 1 = cc in omega arith)
 
 pub same_self : (t : Time) → same_time t t ≡ true
 unfolding same_time
@@ -106,26 +107,26 @@ unfolding earlier
 not_earlier t = le-ltb (time_of t) (time_of t) (omega arith)
 
 -- the unit's deadline, and that it may be visited
-names_told : (p : Last) (balked : Bool) (d : Deadline) (t : Time) → names_by p balked d ≡ At t
-    → (d ≡ At t) × ((may_follow p t && not (balked && is_present p t)) ≡ true)
-names_told p balked Never t e = absurd (let z : ◌≡◌ {A = ℕ} 0 1 = cc in omega arith)
-names_told p balked (Refused n) t e = absurd (let z : ◌≡◌ {A = ℕ} 0 1 = cc in omega arith)
-names_told p balked (At x) t e = go (may_follow p x && not (balked && is_present p x)) refl e
+names_told : (p : Option Time) (balked : Bool) (d : Result (Option Time) Refusal) (t : Time) → names_by p balked d ≡ Ok (Some t)
+    → (d ≡ Ok (Some t)) × ((may_follow p t && not (balked && is_present p t)) ≡ true)
+names_told p balked (Ok None) t e = absurd (let z : ◌≡◌ {A = ℕ} 0 1 = cc in omega arith)
+names_told p balked (Err n) t e = absurd (let z : ◌≡◌ {A = ℕ} 0 1 = cc in omega arith)
+names_told p balked (Ok (Some x)) t e = go (may_follow p x && not (balked && is_present p x)) refl e
   where
-    same : At x ≡ At t → x ≡ t
+    same : ◌≡◌ {A = Result (Option Time) Refusal} (Ok (Some x)) (Ok (Some t)) → x ≡ t
     same f = cc
 
-    go : (c : Bool) → (may_follow p x && not (balked && is_present p x)) ≡ c → cond c (At x) Never ≡ At t → (At x ≡ At t) × ((may_follow p t && not (balked && is_present p t)) ≡ true)
+    go : (c : Bool) → (may_follow p x && not (balked && is_present p x)) ≡ c → ◌≡◌ {A = Result (Option Time) Refusal} (cond c (Ok (Some x)) (Ok None)) (Ok (Some t)) → ◌≡◌ {A = Result (Option Time) Refusal} (Ok (Some x)) (Ok (Some t)) × ((may_follow p t && not (balked && is_present p t)) ≡ true)
     go true g f = (f, subst (λ (y : Time). (may_follow p y && not (balked && is_present p y)) ≡ true) (same f) g)
     go false g f = absurd (let z : ◌≡◌ {A = ℕ} 0 1 = cc in omega arith)
 
 -- a unit whose visit wasn't refused is named in the moment of its deadline
-is_named_lem : (k : Clocks) (t : Time) (m : Bool) (s : Iic) → deadline_of s k ≡ At t → m ≡ false → is_named k t m s ≡ true
+is_named_lem : (k : Clocks) (t : Time) (m : Bool) (s : Iic) → deadline_of s k ≡ Ok (Some t) → m ≡ false → is_named k t m s ≡ true
 unfolding is_named names_of
 is_named_lem k t m s e f = simp (e, f, not_earlier t, same_self t)
 
 -- after going to the moment that a unit names, it is due
-kept_unit : (k : Clocks) (p : Last) (t : Time) (m : Bool) (s : Iic) → names_of k p m s ≡ At t
+kept_unit : (k : Clocks) (p : Option Time) (t : Time) (m : Bool) (s : Iic) → names_of k p m s ≡ Ok (Some t)
     → (is_present p t ≡ true → is_named k t m s ≡ true) × (is_named k t false s ≡ true)
 unfolding names_of
 kept_unit k p t m s e =
@@ -139,23 +140,23 @@ kept_unit k p t m s e =
 
 module _ (k : Clocks) (count : ℕ) where
   -- what goes_to leaves, the moment the same or another one
-  abbrev pub left : Last → Time → Bench → Bool → Bench
+  abbrev pub left : Option Time → Time → Bench → Bool → Bench
   left p t b true = (goes (Visits t 0) b).bench
   left p t b false = (goes (Visits t 0) (unmarked b)).bench
 
-  left_due : (p : Last) (t : Time) (b : Bench) (u : ℕ) → (mark_of (unmarked b).place u ≡ false) → named_by k count p b u ≡ At t
+  left_due : (p : Option Time) (t : Time) (b : Bench) (u : ℕ) → (mark_of (unmarked b).place u ≡ false) → named_by k count p b u ≡ Ok (Some t)
       → (c : Bool) → is_present p t ≡ c → unit_due k count t (left p t b c) u ≡ true
   unfolding named_by unmarked
   left_due p t b u same e c f = go (ltb u count) refl e c f
     where
-      go : (l : Bool) → ltb u count ≡ l → cond l (names_of k p (mark_of b.place u) (state_at b u)) Never ≡ At t → (c : Bool) → is_present p t ≡ c → unit_due k count t (left p t b c) u ≡ true
+      go : (l : Bool) → ltb u count ≡ l → cond l (names_of k p (mark_of b.place u) (state_at b u)) (Ok None) ≡ Ok (Some t) → (c : Bool) → is_present p t ≡ c → unit_due k count t (left p t b c) u ≡ true
       go false g e c f = absurd (let z : ◌≡◌ {A = ℕ} 0 1 = cc in omega arith)
       go true g e true f = simp (g, (kept_unit k p t (mark_of b.place u) (state_at b u) e).0 f)
       go true g e false f = simp (g) (ap (λ (x : Bool). is_named k t x (state_at b u)) same ∙ (kept_unit k p t (mark_of b.place u) (state_at b u) e).1)
 
   -- a unit or the line names the moment
-  pub moment_due : (p : Last) (t : Time) (line : Deadline) (b : Bench) (c : Bool) → is_present p t ≡ c → moment_of k count p line b ≡ At t
-      → (due_from (unit_due k count t (left p t b c)) 0 ≡ true) ⊎ (line ≡ At t)
+  pub moment_due : (p : Option Time) (t : Time) (line : Result (Option Time) Refusal) (b : Bench) (c : Bool) → is_present p t ≡ c → moment_of k count p line b ≡ Ok (Some t)
+      → (due_from (unit_due k count t (left p t b c)) 0 ≡ true) ⊎ (line ≡ Ok (Some t))
   unfolding moment_of unmarked
   moment_due p t line b c f e =
       ⊎_elim (λ h. inl (some_from due (inl (left_due p t b 0 refl h c f))))

@@ -1,20 +1,18 @@
 -- Definitions: the states of a bench's units, the moment that they name next and the levels of the wires (document 02, (g)).
-use Rattle.std.specs.Prelude.{ℕ, List, [], ◌∷◌, Bool, false, cond, ltb, get_or}
+use Rattle.std.specs.Prelude.{ℕ, List, [], ◌∷◌, Bool, false, cond, ltb, get_or, None, Option, Ok, Result}
 use Rattle.bus.specs.Bus.{wired}
 use Rattle.bus.specs.declared.Levels.{Levels}
 use Rattle.clocks.specs.declared.Clocks.{Clocks}
-use Rattle.clocks.specs.declared.wait.Deadline.{Deadline}
-use Rattle.clocks.specs.declared.wait.Deadline.TheVariants.{Never}
 use Rattle.waits.specs.Ends.{sooner}
 use Rattle.iic.specs.declared.Iic.{Iic}
 use Rattle.iic.specs.State.{default_iic}
 use Rattle.iic.specs.Calls.{pins_of}
-use Rattle.lines.specs.declared.Last.{Last}
-use Rattle.lines.specs.declared.Last.TheVariants.{First}
 use Rattle.units.specs.Units.{driven, names_of, released}
 use Rattle.bench.specs.declared.Bench.{Bench}
 use Rattle.bench.specs.declared.Place.{Place}
 use Rattle.bench.specs.declared.Doing.TheVariants.{Looks}
+use Rattle.time.specs.declared.Time.{Time}
+use Rattle.refusals.specs.declared.Refusal.{Refusal}
 
 -- ## Units
 
@@ -22,7 +20,7 @@ use Rattle.bench.specs.declared.Doing.TheVariants.{Looks}
 unfoldable pub fresh_bench : Bench
 fresh_bench = record {
   states = default_iic ∷ default_iic ∷ default_iic ∷ default_iic ∷ [];
-  place = record { doing = Looks First; last = First; visits = 0; refused = false ∷ false ∷ false ∷ false ∷ [] };
+  place = record { doing = Looks None; last = None; visits = 0; refused = false ∷ false ∷ false ∷ false ∷ [] };
 }
 
 -- "a unit, a digit counted from 0"
@@ -39,11 +37,11 @@ mark_of p u = get_or p.refused u false
 -- ## Moments
 
 -- of the unit of that number, where the bench has it
-unfoldable pub named_by : Clocks → ℕ → Last → Bench → ℕ → Deadline
-named_by k count present b u = cond (ltb u count) (names_of k present (mark_of b.place u) (state_at b u)) Never
+unfoldable pub named_by : Clocks → ℕ → Option Time → Bench → ℕ → Result (Option Time) Refusal
+named_by k count present b u = cond (ltb u count) (names_of k present (mark_of b.place u) (state_at b u)) (Ok None)
 
 -- the earliest that a unit or a script line names
-unfoldable pub moment_of : Clocks → ℕ → Last → Deadline → Bench → Deadline
+unfoldable pub moment_of : Clocks → ℕ → Option Time → Result (Option Time) Refusal → Bench → Result (Option Time) Refusal
 moment_of k count present line b =
     sooner (named_by k count present b 0)
     (sooner (named_by k count present b 1) (sooner (named_by k count present b 2) (sooner (named_by k count present b 3) line)))

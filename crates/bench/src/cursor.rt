@@ -2,29 +2,30 @@
 ghost use Rattle.std.specs.Prelude.{◌≡◌, ◌<◌};
 ghost use Rattle.bench.specs.Cursor.{next_at, cursor_at, cursor_after};
 
+use lines::Call;
 use lines::ends::{line_end, past};
-use script::{Next, parse};
+use script::parse;
 
-// The place of the next line, the lines before it that were answered, and what it says.
+// The place of the next line, the lines before it that were answered, and what it says: None where none is left, Some(None) where it is malformed.
 #[derive(Clone, Copy)]
 pub struct Cursor {
     pub at: usize,
     pub lines: u64,
-    pub next: Next,
+    pub next: Option<Option<(u8, Call)>>,
 }
 
 // What the line at a place says, after so many lines.
-fn next_at(script: &[u8], at: usize, lines: u64) -> Next
+fn next_at(script: &[u8], at: usize, lines: u64) -> Option<Option<(u8, Call)>>
     ensures { result ≡ next_at script.now at lines }
 {
     if script.len() <= at {
-        return Next::NoLine;
+        return None;
     }
     if 1000000 <= lines {
-        return Next::NoLine;
+        return None;
     }
     let end = line_end(script, at);
-    parse(&script[at..end])
+    Some(parse(&script[at..end]))
 }
 
 impl Cursor {

@@ -1,268 +1,231 @@
 // What a bench does, step by step.
-ghost use Rattle.std.specs.Prelude.{◌≡◌, ◌≤◌, ◌<◌};
-ghost use Rattle.bench.specs.Bench.{has_ended, end_of};
+ghost use Rattle.std.specs.Prelude.{◌≡◌};
+ghost use Rattle.bench.specs.Bench.{end_of};
+ghost use Rattle.bench.specs.Moments.{state_at};
 ghost use Rattle.bench.specs.Steps.{goes, goes_to, look_of, play_now_of, play_of, reports_of, seek_of, step_of, to_reports, turned, turned_away, unmarked, visits_of};
 
 use super::notes::unplayed;
-use super::turns::{play_line, report, visit};
-use super::{Bench, Doing, Place, Step, Told, Turn};
+use super::peripherals::{Peripherals, Unit};
+use super::turns::Called;
+use super::{Bench, Doing, Place, Step, Turn};
 use answers::Shown;
 use bus::Levels;
 use clocks::Clocks;
-use clocks::wait::Deadline;
-use lines::{Call, Last};
-use script::{Judged, Next};
+use lines::Call;
+use refusals::Refusal;
+use script::{Unplayed, judge};
 use time::Time;
 use units::is_present;
+
+// What a step finds: the free bytes for answer lines, what the script has next, and the number of that line.
+#[derive(Clone, Copy)]
+pub(crate) struct Found {
+    pub(crate) free: usize,
+    pub(crate) next: Option<Option<(u8, Call)>>,
+    pub(crate) number: u64,
+}
 
 impl Bench {
     // Nothing is written, and no line answered.
     pub(crate) fn goes(self, doing: Doing) -> Step
         ensures { result ≡ goes doing self }
     {
-        let place = self.place;
         Step {
             bench: Bench {
-                place: place.going(doing),
+                place: self.place.going(doing),
                 ..self
             },
-            told: Told::Nothing,
+            told: None,
             answered: false,
         }
     }
 
-    // A unit's turn is the bench's step.
-    fn turned(mut self, u: u8, turn: Turn) -> Step
-        requires { u < 4 }
-        ensures { result ≡ turned u turn self }
+    // A unit of it, over a clock set, with so many free bytes.
+    fn called(self, unit: Unit, clocks: Clocks, free: usize) -> Called
+        ensures { result ≡ record { unit = unit; state = state_at self unit.digit; place = self.place; clocks = clocks; free = free } }
     {
-        let place = turn.place;
-        let told = turn.told;
-        let state = turn.state;
-        let at = u as usize;
-        self.states[at] = state;
+        Called {
+            unit,
+            state: self.state(unit),
+            place: self.place,
+            clocks,
+            free,
+        }
+    }
+
+    // A unit's turn is the bench's step.
+    fn turned(mut self, unit: Unit, turn: Turn) -> Step
+        ensures { result ≡ turned unit.digit turn self }
+    {
+        self.states[unit.digit as usize] = turn.state;
         Step {
-            bench: Bench { place, ..self },
-            told,
+            bench: Bench {
+                place: turn.place,
+                ..self
+            },
+            told: turn.told,
             answered: turn.answered,
         }
     }
 
     // A script line is answered that isn't played.
-    fn turn_away(self, refusal: u8, shown: Shown, number: u64, free: usize) -> Step
-        ensures { result ≡ turned_away refusal shown number free self }
+    #[tactic(auto, unfolding(crate::specs::Steps::turned_away))]
+    fn turn_away(self, refusal: Refusal, shown: Shown, found: Found) -> Step
+        ensures { result ≡ turned_away refusal shown found.number found.free self }
     {
-        if free < 80 {
-            return self.goes(Doing::Ended(6));
+        if found.free < 80 {
+            return self.goes(Doing::Ended(Err(Refusal::NoRoom)));
         }
         Step {
             bench: self,
-            told: unplayed(number, refusal, shown),
+            told: Some(unplayed(found.number, refusal, shown)),
             answered: true,
         }
     }
 
     // No visit was refused in a moment that the bench comes to.
+    #[tactic(auto, unfolding(crate::specs::Steps::unmarked))]
     fn unmarked(self) -> Bench
         ensures { result ≡ unmarked self }
     {
-        let place = self.place;
         Bench {
             place: Place {
                 refused: [false; 4],
-                ..place
+                ..self.place
             },
             ..self
         }
     }
 
-    fn goes_to(self, present: Last, time: Time) -> Step
+    #[tactic(auto, unfolding(crate::specs::Steps::goes_to))]
+    fn goes_to(self, present: Option<Time>, time: Time) -> Step
         ensures { result ≡ goes_to present time self }
     {
-        let again = is_present(present, time);
-        if again {
-            self.goes(Doing::Visits(time, 0))
+        let bench = if is_present(present, time) {
+            self
         } else {
-            self.unmarked().goes(Doing::Visits(time, 0))
-        }
+            self.unmarked()
+        };
+        bench.goes(Doing::Visits(time, 0))
     }
 
     // To the earliest moment; the bench ends where none is named.
-    fn seek(self, present: Last, count: u8, clocks: Clocks, line: Deadline) -> Step
-        requires { count ≤ 4 }
-        ensures { result ≡ seek_of clocks count present line self }
-    {
-        let moment = self.moment(count, present, clocks, line);
-        match moment {
-            Deadline::Never => self.goes(Doing::Ended(0)),
-            Deadline::At(time) => self.goes_to(present, time),
-            Deadline::Refused(_) => self.goes(Doing::Ended(0)),
-        }
-    }
-
-    fn look(
+    #[tactic(auto, unfolding(crate::specs::Steps::seek_of))]
+    fn seek(
         self,
-        present: Last,
-        count: u8,
-        clocks: Clocks,
-        free: usize,
-        number: u64,
-        next: Next,
+        present: Option<Time>,
+        all: Peripherals,
+        line: Result<Option<Time>, Refusal>,
     ) -> Step
-        requires { count ≤ 4 }
-        ensures { result ≡ look_of clocks count free number next present self }
+        ensures { result ≡ seek_of all.clocks all.count present line self }
     {
-        let place = self.place;
-        let last = place.last;
-        let judged = next.judge(last, count);
-        match judged {
-            Judged::NoLine => self.seek(present, count, clocks, Deadline::Never),
-            Judged::Unread => self.turn_away(4, Shown::Nobody, number, free),
-            Judged::Early(u) => self.turn_away(5, self.shown(u), number, free),
-            Judged::Plays(_, call) => {
-                let time = call.time;
-                self.seek(present, count, clocks, Deadline::At(time))
-            }
+        match self.moment(all, present, line) {
+            Ok(Some(time)) => self.goes_to(present, time),
+            Ok(None) | Err(_) => self.goes(Doing::Ended(Ok(()))),
         }
     }
 
-    fn visits(self, time: Time, u: u8, count: u8, clocks: Clocks, free: usize) -> Step
-        requires { count ≤ 4 }
-        ensures { result ≡ visits_of clocks count free time u self }
+    #[tactic(auto, unfolding(crate::specs::Steps::look_of))]
+    fn look(self, present: Option<Time>, all: Peripherals, found: Found) -> Step
+        ensures { result ≡ look_of all.clocks all.count found.free found.number found.next present self }
     {
-        if count <= u {
+        let Some(line) = found.next else {
+            return self.seek(present, all, Ok(None));
+        };
+        match judge(line, self.place.last, all.count) {
+            Ok((_, call)) => self.seek(present, all, Ok(Some(call.time))),
+            Err(Unplayed::Unread) => self.turn_away(Refusal::Malformed, Shown::Nobody, found),
+            Err(Unplayed::Early(u)) => self.turn_away(
+                Refusal::NotLater,
+                self.shown(Unit { digit: u }),
+                found,
+            ),
+        }
+    }
+
+    #[tactic(auto, unfolding(crate::specs::Steps::visits_of))]
+    fn visits(self, time: Time, u: u8, all: Peripherals, free: usize) -> Step
+        ensures { result ≡ visits_of all.clocks all.count free time u self }
+    {
+        let Some(unit) = all.unit(u) else {
             return self.goes(Doing::Plays(time));
-        }
-        let place = self.place;
-        self.turned(u, visit(self.state(u), place, time, u, clocks, free))
+        };
+        self.turned(unit, self.called(unit, all.clocks, free).visit(time))
     }
 
-    fn to_reports(self, time: Time, count: u8) -> Step
-        requires { count ≤ 4 }
-        ensures { result ≡ to_reports count time self }
+    fn to_reports(self, time: Time, all: Peripherals) -> Step
+        ensures { result ≡ to_reports all.count time self }
     {
-        self.goes(Doing::Reports(time, self.wires(count), 0))
+        self.goes(Doing::Reports(time, self.wires(all), 0))
     }
 
     // A script line, where it is of the present moment.
-    fn play_now(
-        self,
-        time: Time,
-        u: u8,
-        call: Call,
-        count: u8,
-        clocks: Clocks,
-        free: usize,
-        number: u64,
-    ) -> Step
-        requires { (u < 4) × (count ≤ 4) }
-        ensures { result ≡ play_now_of clocks count free number time u call self }
+    #[tactic(auto, unfolding(crate::specs::Steps::play_now_of))]
+    fn play_now(self, time: Time, unit: Unit, call: Call, all: Peripherals, found: Found) -> Step
+        ensures { result ≡ play_now_of all.clocks all.count found.free found.number time unit.digit call self }
     {
-        let at = call.time;
-        let due = at.same(time);
-        if due {
-            let place = self.place;
-            self.turned(
-                u,
-                play_line(self.state(u), place, call, number, u, clocks, free),
-            )
+        if call.time.same(time) {
+            let called = self.called(unit, all.clocks, found.free);
+            self.turned(unit, called.play_line(call, found.number))
         } else {
-            self.to_reports(time, count)
+            self.to_reports(time, all)
         }
     }
 
-    fn play(
-        self,
-        time: Time,
-        count: u8,
-        clocks: Clocks,
-        free: usize,
-        number: u64,
-        next: Next,
-    ) -> Step
-        requires { count ≤ 4 }
-        ensures { result ≡ play_of clocks count free number next time self }
+    // Not one function with `look`: two of the four arms differ, and the two that don't are a line each.
+    #[tactic(auto, unfolding(crate::specs::Steps::play_of))]
+    fn play(self, time: Time, all: Peripherals, found: Found) -> Step
+        ensures { result ≡ play_of all.clocks all.count found.free found.number found.next time self }
     {
-        let place = self.place;
-        let last = place.last;
-        let judged = next.judge(last, count);
-        match judged {
-            Judged::NoLine => self.to_reports(time, count),
-            Judged::Unread => self.turn_away(4, Shown::Nobody, number, free),
-            Judged::Early(u) => self.turn_away(5, self.shown(u), number, free),
-            Judged::Plays(u, call) => { self.play_now(time, u, call, count, clocks, free, number) }
+        let Some(line) = found.next else {
+            return self.to_reports(time, all);
+        };
+        match judge(line, self.place.last, all.count) {
+            Ok((u, call)) => self.play_now(time, Unit { digit: u }, call, all, found),
+            Err(Unplayed::Unread) => self.turn_away(Refusal::Malformed, Shown::Nobody, found),
+            Err(Unplayed::Early(u)) => self.turn_away(
+                Refusal::NotLater,
+                self.shown(Unit { digit: u }),
+                found,
+            ),
         }
     }
 
-    fn reports(
-        self,
-        time: Time,
-        wires: Levels,
-        u: u8,
-        count: u8,
-        clocks: Clocks,
-        free: usize,
-    ) -> Step
-        requires { count ≤ 4 }
-        ensures { result ≡ reports_of clocks count free time wires u self }
+    #[tactic(auto, unfolding(crate::specs::Steps::reports_of))]
+    fn reports(self, time: Time, wires: Levels, u: u8, all: Peripherals, free: usize) -> Step
+        ensures { result ≡ reports_of all.clocks all.count free time wires u self }
     {
-        if count <= u {
-            return self.goes(Doing::Looks(Last::After(time)));
-        }
-        let place = self.place;
-        self.turned(
-            u,
-            report(self.state(u), place, time, wires, u, clocks, free),
-        )
+        let Some(unit) = all.unit(u) else {
+            return self.goes(Doing::Looks(Some(time)));
+        };
+        let called = self.called(unit, all.clocks, free);
+        self.turned(unit, called.report(time, wires))
     }
 
     // The next step.
-    pub(crate) fn step(
-        self,
-        count: u8,
-        clocks: Clocks,
-        free: usize,
-        number: u64,
-        next: Next,
-    ) -> Step
-        requires { count ≤ 4 }
-        ensures { result ≡ step_of clocks count free number next self }
+    #[tactic(auto, unfolding(crate::specs::Steps::step_of))]
+    pub(crate) fn step(self, all: Peripherals, found: Found) -> Step
+        ensures { result ≡ step_of all.clocks all.count found.free found.number found.next self }
     {
-        let place = self.place;
-        let doing = place.doing;
+        let doing = self.place.doing;
         match doing {
-            Doing::Looks(present) => self.look(present, count, clocks, free, number, next),
-            Doing::Visits(time, u) => self.visits(time, u, count, clocks, free),
-            Doing::Plays(time) => self.play(time, count, clocks, free, number, next),
-            Doing::Reports(time, wires, u) => { self.reports(time, wires, u, count, clocks, free) }
+            Doing::Looks(present) => self.look(present, all, found),
+            Doing::Visits(time, u) => self.visits(time, u, all, found.free),
+            Doing::Plays(time) => self.play(time, all, found),
+            Doing::Reports(time, wires, u) => self.reports(time, wires, u, all, found.free),
             Doing::Ended(_) => self.goes(doing),
         }
     }
 }
 
 impl Doing {
-    pub(crate) fn has_ended(self) -> bool
-        ensures { result ≡ has_ended self }
-    {
-        match self {
-            Doing::Looks(_) => false,
-            Doing::Visits(_, _) => false,
-            Doing::Plays(_) => false,
-            Doing::Reports(_, _, _) => false,
-            Doing::Ended(_) => true,
-        }
-    }
-
-    // 0 or the refusal.
-    pub(crate) fn end(self) -> u8
+    // Whether a refusal ended it.
+    pub(crate) fn end(self) -> Result<(), Refusal>
         ensures { result ≡ end_of self }
     {
         match self {
-            Doing::Looks(_) => 0,
-            Doing::Visits(_, _) => 0,
-            Doing::Plays(_) => 0,
-            Doing::Reports(_, _, _) => 0,
-            Doing::Ended(refusal) => refusal,
+            Doing::Ended(ended) => ended,
+            _ => Ok(()),
         }
     }
 }

@@ -1,16 +1,21 @@
 // What a step does to the unit that it calls.
-ghost use Rattle.std.specs.Prelude.{◌≡◌, ◌<◌};
-ghost use Rattle.bench.specs.Turns.{passed_by, play_line_of, played_by, report_of, reported_by, set_doing, visit_due_of, visit_of, visited_by, visited_place};
+ghost use Rattle.std.specs.Prelude.{◌≡◌, ◌<◌, ◌≤◌, Err};
+ghost use Rattle.answers.specs.Calls.{outcome_of};
+ghost use Rattle.bench.specs.Turns.{noted_by, passed_by, play_line_of, played_by, report_of, set_doing, visit_due_of, visit_of, visited_place};
 ghost use Rattle.bench.specs.Moments.{mark_of};
+ghost use Rattle.bench.specs.declared.Doing.TheVariants.{Ended};
+ghost use Rattle.refusals.specs.declared.Refusal.TheVariants.{NoRoom};
 
 use super::notes::{answer, note};
-use super::{Doing, Place, Told, Turn};
-use answers::Outcome;
+use super::peripherals::Unit;
+use super::{Doing, Place, Turn};
 use answers::calls::outcome_in;
+use answers::{Outcome, Value};
 use bus::Levels;
 use clocks::Clocks;
 use iic::Iic;
-use lines::{Call, Last, Verb};
+use lines::{Call, Verb};
+use refusals::{Refusal, number_ended};
 use time::Time;
 use units::is_named;
 
@@ -22,166 +27,142 @@ impl Place {
     }
 
     // Whether the unit's visit in the present moment was refused.
-    pub(crate) fn mark(self, u: u8) -> bool
-        requires { u < 4 }
-        ensures { result ≡ mark_of self u }
+    pub(crate) fn mark(self, unit: Unit) -> bool
+        ensures { result ≡ mark_of self unit.digit }
     {
-        let at = u as usize;
-        self.refused[at]
+        self.refused[unit.digit as usize]
     }
 
     // After a visit.
-    fn visited(mut self, time: Time, u: u8, refusal: u8) -> Place
-        requires { (u < 4) × (self.visits < 65536) }
-        ensures { result ≡ visited_place time u refusal self }
+    fn visited(mut self, time: Time, unit: Unit, answer: Result<Option<Value>, Refusal>) -> Place
+        requires { self.visits < 65536 }
+        ensures { result ≡ visited_place time unit.digit answer self }
     {
-        let at = u as usize;
-        self.refused[at] = !(refusal == 0);
+        self.refused[unit.digit as usize] = number_ended(answer) != 0;
         Place {
-            doing: Doing::Visits(time, u + 1),
+            doing: Doing::Visits(time, unit.digit + 1),
             visits: self.visits + 1,
             ..self
         }
     }
 }
 
-// A unit that isn't called.
-fn passed(state: Iic, place: Place, doing: Doing) -> Turn
-    ensures { result ≡ passed_by doing place state }
+// A unit that a step may call: its state, where the bench stands, the clock set and the free bytes for its answer line.
+#[derive(Clone, Copy)]
+pub(crate) struct Called {
+    pub(crate) unit: Unit,
+    pub(crate) state: Iic,
+    pub(crate) place: Place,
+    pub(crate) clocks: Clocks,
+    pub(crate) free: usize,
+}
+
+// After a visit or a report.
+fn noted(unit: Unit, done: Outcome, place: Place) -> Turn
+    ensures { result ≡ noted_by unit.digit done place }
 {
     Turn {
-        state,
-        place: place.going(doing),
-        told: Told::Nothing,
+        state: done.state,
+        place,
+        told: note(unit, done),
         answered: false,
-    }
-}
-
-// After a visit.
-fn visited(done: Outcome, place: Place, time: Time, u: u8) -> Turn
-    requires { (u < 4) × (place.visits < 65536) }
-    ensures { result ≡ visited_by time u done place }
-{
-    let state = done.state;
-    Turn {
-        state,
-        place: place.visited(time, u, done.refusal),
-        told: note(u, done),
-        answered: false,
-    }
-}
-
-// A visit that is due.
-fn visit_due(state: Iic, place: Place, time: Time, u: u8, clocks: Clocks, free: usize) -> Turn
-    requires { u < 4 }
-    ensures { result ≡ visit_due_of clocks free time u place state }
-{
-    if free < 80 {
-        return passed(state, place, Doing::Ended(6));
-    }
-    if 65536 <= place.visits {
-        return passed(state, place, Doing::Ended(16));
-    }
-    visited(outcome_in(clocks, Verb::Visit, time, state), place, time, u)
-}
-
-// A unit's turn to be visited.
-pub(crate) fn visit(
-    state: Iic,
-    place: Place,
-    time: Time,
-    u: u8,
-    clocks: Clocks,
-    free: usize,
-) -> Turn
-    requires { u < 4 }
-    ensures { result ≡ visit_of clocks free time u place state }
-{
-    let named = is_named(state, place.mark(u), time, clocks);
-    if named {
-        visit_due(state, place, time, u, clocks, free)
-    } else {
-        passed(state, place, Doing::Visits(time, u + 1))
     }
 }
 
 // After a script line.
-fn played(done: Outcome, place: Place, time: Time, number: u64, u: u8) -> Turn
-    ensures { result ≡ played_by time number u done place }
+fn played(number: u64, unit: Unit, time: Time, done: Outcome, place: Place) -> Turn
+    ensures { result ≡ played_by time number unit.digit done place }
 {
-    let state = done.state;
     Turn {
-        state,
+        state: done.state,
         place: Place {
-            last: Last::After(time),
+            last: Some(time),
             ..place
         },
-        told: answer(number, u, done),
+        told: Some(answer(number, unit, done)),
         answered: true,
     }
 }
 
-// A unit's script line.
-pub(crate) fn play_line(
-    state: Iic,
-    place: Place,
-    call: Call,
-    number: u64,
-    u: u8,
-    clocks: Clocks,
-    free: usize,
-) -> Turn
-    ensures { result ≡ play_line_of clocks free number u call place state }
-{
-    if free < 80 {
-        return passed(state, place, Doing::Ended(6));
+impl Called {
+    // It isn't called.
+    fn passed(self, doing: Doing) -> Turn
+        ensures { result ≡ passed_by doing self.place self.state }
+    {
+        Turn {
+            state: self.state,
+            place: self.place.going(doing),
+            told: None,
+            answered: false,
+        }
     }
-    let verb = call.verb;
-    let time = call.time;
-    played(
-        outcome_in(clocks, verb, time, state),
-        place,
-        time,
-        number,
-        u,
-    )
-}
 
-// After a report.
-fn reported(done: Outcome, place: Place, time: Time, wires: Levels, u: u8) -> Turn
-    requires { u < 4 }
-    ensures { result ≡ reported_by time wires u done place }
-{
-    let state = done.state;
-    Turn {
-        state,
-        place: place.going(Doing::Reports(time, wires, u + 1)),
-        told: note(u, done),
-        answered: false,
+    // What comes of it where its answer line has room; else the bench ends.
+    fn with_room<F: FnOnce() -> Turn>(self, turn: F) -> Turn
+        requires { F.IsAlwaysCallable turn }
+        ensures full { self.free < 80 → result ≡ passed_by (Ended (Err NoRoom)) self.place self.state }
+        ensures fits { 80 ≤ self.free → F.post turn result }
+    {
+        if self.free < 80 {
+            return self.passed(Doing::Ended(Err(Refusal::NoRoom)));
+        }
+        turn()
     }
-}
 
-// The report of the wires' levels to a unit.
-pub(crate) fn report(
-    state: Iic,
-    place: Place,
-    time: Time,
-    wires: Levels,
-    u: u8,
-    clocks: Clocks,
-    free: usize,
-) -> Turn
-    requires { u < 4 }
-    ensures { result ≡ report_of clocks free time wires u place state }
-{
-    if free < 80 {
-        return passed(state, place, Doing::Ended(6));
+    // What a call of it leaves.
+    fn call(self, verb: Verb, time: Time) -> Outcome
+        ensures { result ≡ outcome_of self.clocks time self.state verb }
+    {
+        outcome_in(self.clocks, verb, time, self.state)
     }
-    reported(
-        outcome_in(clocks, Verb::Pins(wires.scl, wires.sda), time, state),
-        place,
-        time,
-        wires,
-        u,
-    )
+
+    // A visit that is due.
+    #[tactic(auto, unfolding(crate::specs::Turns::visit_due_of))]
+    fn visit_due(self, time: Time) -> Turn
+        ensures { result ≡ visit_due_of self.clocks self.free time self.unit.digit self.place self.state }
+    {
+        self.with_room(|| {
+            if 65536 <= self.place.visits {
+                return self.passed(Doing::Ended(Err(Refusal::Visits)));
+            }
+            let done = self.call(Verb::Visit, time);
+            let place = self.place.visited(time, self.unit, done.answer);
+            noted(self.unit, done, place)
+        })
+    }
+
+    // Its turn to be visited.
+    #[tactic(auto, unfolding(crate::specs::Turns::visit_of))]
+    pub(crate) fn visit(self, time: Time) -> Turn
+        ensures { result ≡ visit_of self.clocks self.free time self.unit.digit self.place self.state }
+    {
+        if is_named(self.state, self.place.mark(self.unit), time, self.clocks) {
+            self.visit_due(time)
+        } else {
+            self.passed(Doing::Visits(time, self.unit.digit + 1))
+        }
+    }
+
+    // Its script line.
+    #[tactic(auto, unfolding(crate::specs::Turns::play_line_of))]
+    pub(crate) fn play_line(self, call: Call, number: u64) -> Turn
+        ensures { result ≡ play_line_of self.clocks self.free number self.unit.digit call self.place self.state }
+    {
+        self.with_room(|| {
+            let done = self.call(call.verb, call.time);
+            played(number, self.unit, call.time, done, self.place)
+        })
+    }
+
+    // The report of the wires' levels to it.
+    #[tactic(auto, unfolding(crate::specs::Turns::report_of))]
+    pub(crate) fn report(self, time: Time, wires: Levels) -> Turn
+        ensures { result ≡ report_of self.clocks self.free time wires self.unit.digit self.place self.state }
+    {
+        let doing = Doing::Reports(time, wires, self.unit.digit + 1);
+        self.with_room(|| {
+            let done = self.call(Verb::Pins(wires.scl, wires.sda), time);
+            noted(self.unit, done, self.place.going(doing))
+        })
+    }
 }

@@ -1,5 +1,5 @@
 -- Laws: the proof of `EqualOnBench`, by the steps of the run: what holds of the two units at the start is kept by each step. Assumes nothing.
-use Rattle.std.specs.Prelude.{ℕ, zero, suc, ◌≤◌, ◌<◌, Bool, true, false, ◌||◌, List, ◌⊎◌, ◌≡◌, refl}
+use Rattle.std.specs.Prelude.{ℕ, zero, suc, ◌≤◌, ◌<◌, Bool, true, false, ◌||◌, List, ◌⊎◌, ◌≡◌, refl, None, Some}
 use Rattle.std.proofs.lemmas.Bool.{false≢true}
 use Rattle.std.proofs.Common.{inl, inr, sym, ap, ◌∙◌, eq-eqb, eqb-true}
 use Rattle.std.proofs.Math.Logic.{⊎_elim}
@@ -8,7 +8,6 @@ use native.Mathlib.Omega.{arith}
 use Rattle.clocks.specs.declared.Clocks.{Clocks}
 use Rattle.iic.specs.State.{default_iic}
 use Rattle.iic.specs.declared.Iic.{Iic}
-use Rattle.lines.specs.declared.Last.TheVariants.{First, After}
 use Rattle.wires.specs.Statement.{InWord}
 use Rattle.wires.specs.Units.{On}
 use Rattle.wires.specs.Views.{View}
@@ -22,6 +21,7 @@ use Rattle.together.specs.Calls.{doing_in, run_at, unit_in}
 use Rattle.together.specs.Runs.{EqualOnBench, Shares, is_between, is_reporting}
 use Rattle.together.specs.Stages.{FirstAt, Holds, LaterAt}
 use Rattle.together.proofs.StepsHold.{none_marked, step_holds}
+use Rattle.refusals.specs.Refusals.{number_ended}
 
 -- ## After any number of steps
 
@@ -89,20 +89,20 @@ module _ (k : Clocks) (word : InWord k) (count room : ℕ) (small : count ≤ 4)
 -- ## Between two moments
 
 first_filtered : (k : Clocks) (d : Doing) (s : Iic) → is_between d ≡ true → FirstAt k d s → s.lines.filtered ≡ default_iic.lines.filtered
-first_filtered k (Looks First) s e h = ap (λ (x : Iic). x.lines.filtered) h
-first_filtered k (Looks (After m)) s e h = absurd h
+first_filtered k (Looks None) s e h = ap (λ (x : Iic). x.lines.filtered) h
+first_filtered k (Looks (Some m)) s e h = absurd h
 first_filtered k (Visits t i) s e h = absurd (false≢true e)
 first_filtered k (Plays t) s e h = absurd (false≢true e)
 first_filtered k (Reports t w i) s e h = absurd (false≢true e)
-first_filtered k (Ended n) s e h = ap (λ (x : Iic). x.lines.filtered) (h (eqb-true n 0 e))
+first_filtered k (Ended n) s e h = ap (λ (x : Iic). x.lines.filtered) (h (eqb-true (number_ended n) 0 e))
 
 later_filtered : (k : Clocks) (v : View) (d : Doing) (u : ℕ) (s : Iic) → is_between d ≡ true → LaterAt k v d u s → s.lines.filtered ≡ v.filtered
-later_filtered k v (Looks First) u s e h = absurd h
-later_filtered k v (Looks (After m)) u s e h = h.keeps.filtered
+later_filtered k v (Looks None) u s e h = absurd h
+later_filtered k v (Looks (Some m)) u s e h = h.keeps.filtered
 later_filtered k v (Visits t i) u s e h = absurd (false≢true e)
 later_filtered k v (Plays t) u s e h = absurd (false≢true e)
 later_filtered k v (Reports t w i) u s e h = absurd (false≢true e)
-later_filtered k v (Ended n) u s e h = h (eqb-true n 0 e)
+later_filtered k v (Ended n) u s e h = h (eqb-true (number_ended n) 0 e)
 
 both_filtered : (k : Clocks) (U : ℕ → Type 0) (q : Bool) (c : Bench) → Holds k U q c → is_between c.place.doing ≡ true → (a b : ℕ) → U a → U b
     → (state_at c a).lines.filtered ≡ (state_at c b).lines.filtered
@@ -125,17 +125,17 @@ equal_on_bench_lem k word count room small script n a b less-a less-b shares-a s
 
 -- ## At the end
 
-ended_between : (d : Doing) → has_ended d ≡ true → end_of d ≡ 0 → is_between d ≡ true
+ended_between : (d : Doing) → has_ended d ≡ true → number_ended (end_of d) ≡ 0 → is_between d ≡ true
 ended_between (Looks p) h e = absurd (false≢true h)
 ended_between (Visits t i) h e = absurd (false≢true h)
 ended_between (Plays t) h e = absurd (false≢true h)
 ended_between (Reports t w i) h e = absurd (false≢true h)
-ended_between (Ended n) h e = eq-eqb n 0 e
+ended_between (Ended n) h e = eq-eqb (number_ended n) 0 e
 
 -- of a bench that isn't refused
 pub equal_at_end : (k : Clocks) → InWord k → (count room : ℕ) → count ≤ 4 → (script : List ℕ) (a b : ℕ) → a < count → b < count
     → Shares k count room script (enough (start script).lines) a → Shares k count room script (enough (start script).lines) b
-    → end_of (doing_in (ran k count room (start script))) ≡ 0
+    → number_ended (end_of (doing_in (ran k count room (start script)))) ≡ 0
     → (unit_in (ran k count room (start script)) a).lines.filtered ≡ (unit_in (ran k count room (start script)) b).lines.filtered
 equal_at_end k word count room small script a b less-a less-b shares-a shares-b e =
     equal_on_bench_lem k word count room small script (enough (start script).lines) a b less-a less-b shares-a shares-b

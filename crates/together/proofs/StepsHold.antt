@@ -1,6 +1,6 @@
 -- Laws: each step of a bench keeps what holds of its units, `step_holds`, where none of their calls in it is refused and they are on from the first reports on.
 -- Assumes nothing.
-use Rattle.std.specs.Prelude.{ℕ, zero, suc, ◌+◌, ◌-◌, ◌≤◌, ◌<◌, Bool, not, ◌||◌, List, [], ◌∷◌, ◌≡◌, eqb, leb, ltb, get_or, length, set}
+use Rattle.std.specs.Prelude.{ℕ, zero, suc, ◌+◌, ◌-◌, ◌≤◌, ◌<◌, Bool, not, ◌||◌, List, [], ◌∷◌, ◌≡◌, eqb, leb, ltb, get_or, length, set, None, Option, Some, Ok, Err, Result, ⊤}
 use Rattle.std.proofs.Math.Bool.{true, false, true≢false}
 use Rattle.std.proofs.lemmas.Bool.{false≢true}
 use Rattle.std.proofs.Math.Path.{refl, ap, subst}
@@ -8,8 +8,6 @@ use Rattle.std.proofs.Common.{sym, ◌∙◌, arith, length-set, get_or-set_othe
 use borrow.Author.Tests.{eqb-false, eqb-true, leb-false, leb-true}
 use Rattle.bus.specs.declared.Levels.{Levels}
 use Rattle.clocks.specs.declared.Clocks.{Clocks}
-use Rattle.clocks.specs.declared.wait.Deadline.{Deadline}
-use Rattle.clocks.specs.declared.wait.Deadline.TheVariants.{Never, At, Refused}
 use Rattle.time.specs.Time.{same_time, time_of}
 use Rattle.time.specs.Truths.{by_cases, either, if_false, if_true}
 use Rattle.time.specs.declared.Time.{Time}
@@ -19,8 +17,6 @@ use Rattle.iic.specs.State.{default_iic}
 use Rattle.iic.specs.declared.Iic.{Iic}
 use Rattle.answers.specs.Calls as player
 use Rattle.lines.specs.declared.Call.{Call as ScriptCall}
-use Rattle.lines.specs.declared.Last.{Last}
-use Rattle.lines.specs.declared.Last.TheVariants.{First, After}
 use Rattle.answers.specs.declared.Shown.TheVariants.{Nobody}
 use Rattle.lines.specs.declared.Verb.{Verb}
 use Rattle.lines.specs.declared.Verb.TheVariants as verb
@@ -35,13 +31,11 @@ use Rattle.bench.specs.declared.Bench.{Bench}
 use Rattle.bench.specs.declared.Doing.{Doing}
 use Rattle.bench.specs.declared.Doing.TheVariants.{Looks, Visits, Plays, Reports, Ended}
 use Rattle.bench.specs.declared.Step.{Step}
-use Rattle.bench.specs.declared.Told.{Told}
+use Rattle.answers.specs.declared.Line.{Line}
 use Rattle.bench.specs.declared.Turn.{Turn}
-use Rattle.script.specs.declared.Judged.{Judged}
-use Rattle.script.specs.declared.Judged.TheVariants as judged
 use Rattle.bench.specs.Bench.{Run}
 use Rattle.script.specs.Script.{is_scripted, next_of}
-use Rattle.bench.specs.Steps.{goes, goes_to, look_of, play_now_of, play_of, reports_of, seek_by, seek_of, step_by, step_of, to_reports, turned, turned_away, unless_bad, unmarked, visits_of}
+use Rattle.bench.specs.Steps.{Judged, goes, goes_to, look_of, play_now_of, play_of, reports_of, seek_by, seek_of, step_by, step_of, to_reports, turned, turned_away, unless_bad, unmarked, visits_of}
 use Rattle.bench.specs.Turns.{passed_by, play_line_of, played_by, report_of, reported_by, unplayed_by, shown_by, visit_due_of, visit_of, visited_by}
 use Rattle.units.specs.Units.{is_named, is_present}
 use Rattle.bench.specs.Moments.{mark_of, moment_of, state_at, state_in}
@@ -51,6 +45,10 @@ use Rattle.together.specs.Runs.{is_reporting}
 use Rattle.together.specs.SameTime.{sound_same, starting_same}
 use Rattle.together.specs.Stages.{Begun, Holds, LaterAt, Stage}
 use Rattle.together.specs.UnitLaws.{Playable, named_is, no_mark, not_past_lem, playable, state_is}
+use Rattle.script.specs.declared.Unplayed.TheVariants.{Unread, Early}
+use Rattle.refusals.specs.declared.Refusal.{Refusal}
+use Rattle.refusals.specs.Refusals.{number_ended}
+use Rattle.refusals.specs.declared.Refusal.TheVariants as refusal
 
 -- ## Lists
 
@@ -173,48 +171,48 @@ module _ (k : Clocks) (word : InWord k) (count room : ℕ) (small : count ≤ 4)
   four_set i s = length-set b.states i s ∙ four
 
   -- an end with a refusal
-  stops : (q : Bool) (n : ℕ) → (n ≡ 0 → ⊥) → (ss : List Iic) → Stage k U q (Ended n) ss
+  stops : (q : Bool) (n : Result ⊤ Refusal) → (number_ended n ≡ 0 → ⊥) → (ss : List Iic) → Stage k U q (Ended n) ss
   stops false n ne ss = λ u x e. absurd (ne e)
   stops true n ne ss = (default_view, λ u x e. absurd (ne e))
 
-  ends : (q : Bool) (n : ℕ) → (n ≡ 0 → ⊥) → Kept q (goes (Ended n) b)
+  ends : (q : Bool) (n : Result ⊤ Refusal) → (number_ended n ≡ 0 → ⊥) → Kept q (goes (Ended n) b)
   ends false n ne on = (four, clear, stops false n ne b.states)
   ends true n ne on = (four, clear, stops true n ne b.states)
 
-  ends_turn : (q : Bool) (n : ℕ) → (n ≡ 0 → ⊥) → (i : ℕ) → Kept q (turned i (passed_by (Ended n) b.place (state_at b i)) b)
+  ends_turn : (q : Bool) (n : Result ⊤ Refusal) → (number_ended n ≡ 0 → ⊥) → (i : ℕ) → Kept q (turned i (passed_by (Ended n) b.place (state_at b i)) b)
   ends_turn false n ne i on = (four_set i (state_at b i), clear, stops false n ne (set b.states i (state_at b i)))
   ends_turn true n ne i on = (four_set i (state_at b i), clear, stops true n ne (set b.states i (state_at b i)))
 
   -- script lines: one that isn't played leaves the bench
   lines : (P : Step → Type 0) (none : Step) (play : ℕ → ScriptCall → Step)
-      → P (goes (Ended 6) b) → ((x : Told) → P (record { bench = b; told = x; answered = true }))
-      → (goes_on (line_in count r) ≡ true → P none) → ((u : ℕ) (c : ScriptCall) → line_in count r ≡ judged.Plays u c → P (play u c))
+      → P (goes (Ended (Err refusal.NoRoom)) b) → ((x : Option Line) → P (record { bench = b; told = x; answered = true }))
+      → (goes_on (line_in count r) ≡ true → P none) → ((u : ℕ) (c : ScriptCall) → line_in count r ≡ Some (Ok (u, c)) → P (play u c))
       → (j : Judged) → line_in count r ≡ j → P (unless_bad number free b none play j)
   unfolding turned_away
-  lines P none play end same h g judged.NoLine e = h (ap goes_on e)
-  lines P none play end same h g judged.Unread e = either P (ltb free 80) end (same (unplayed_by number 4 Nobody))
-  lines P none play end same h g (judged.Early u) e = either P (ltb free 80) end (same (unplayed_by number 5 (shown_by u (state_at b u))))
-  lines P none play end same h g (judged.Plays u c) e = g u c e
+  lines P none play end same h g None e = h (ap goes_on e)
+  lines P none play end same h g (Some (Err Unread)) e = either P (ltb free 80) end (same (Some (unplayed_by number refusal.Malformed Nobody)))
+  lines P none play end same h g (Some (Err (Early u))) e = either P (ltb free 80) end (same (Some (unplayed_by number refusal.NotLater (shown_by u (state_at b u)))))
+  lines P none play end same h g (Some (Ok (u, c))) e = g u c e
 
   -- ### Before the first reports
 
-  stays_first : (d : Doing) → doing_in r ≡ d → Stage k U (is_reporting d) d b.states → (x : Told) → Kept false (record { bench = b; told = x; answered = true })
+  stays_first : (d : Doing) → doing_in r ≡ d → Stage k U (is_reporting d) d b.states → (x : Option Line) → Kept false (record { bench = b; told = x; answered = true })
   stays_first d e h x on = (four, clear, subst (λ (y : Doing). Stage k U (is_reporting y) y b.states) (sym e) h)
 
-  look_first : (p : Last) → doing_in r ≡ Looks p → Stage k U false (Looks p) b.states → Kept false (look_of k count free number (next_of r.lines) p b)
+  look_first : (p : Option Time) → doing_in r ≡ Looks p → Stage k U false (Looks p) b.states → Kept false (look_of k count free number (next_of r.lines) p b)
   unfolding look_of seek_of goes_to unmarked
-  look_first (After m) e h = absurd (h some is_some)
-  look_first First e h =
-      lines (Kept false) (seek_of k count First Never b) (λ u c. seek_of k count First (At c.time) b)
-      (ends false 6 six) (stays_first (Looks First) e h) (λ f. seek Never) (λ u c f. seek (At c.time)) (line_in count r) refl
+  look_first (Some m) e h = absurd (h some is_some)
+  look_first None e h =
+      lines (Kept false) (seek_of k count None (Ok None) b) (λ u c. seek_of k count None (Ok (Some c.time)) b)
+      (ends false (Err refusal.NoRoom) six) (stays_first (Looks None) e h) (λ f. seek (Ok None)) (λ u c f. seek (Ok (Some c.time))) (line_in count r) refl
     where
-      seek : (line : Deadline) → Kept false (seek_of k count First line b)
-      seek line = go (moment_of k count First line b)
+      seek : (line : Result (Option Time) Refusal) → Kept false (seek_of k count None line b)
+      seek line = go (moment_of k count None line b)
         where
-          go : (m : Deadline) → Kept false (seek_by First b m)
-          go Never on = (four, clear, λ u x z. h u x)
-          go (At t) on = (four, λ u x. none_marked u, λ u x. h u x)
-          go (Refused n) on = (four, clear, λ u x z. h u x)
+          go : (m : Result (Option Time) Refusal) → Kept false (seek_by None b m)
+          go (Ok None) on = (four, clear, λ u x z. h u x)
+          go (Ok (Some t)) on = (four, λ u x. none_marked u, λ u x. h u x)
+          go (Err n) on = (four, clear, λ u x z. h u x)
 
   visits_first : (t : Time) (i : ℕ) → doing_in r ≡ Visits t i → Stage k U false (Visits t i) b.states → Kept false (visits_of k count free t i b)
   unfolding visits_of visit_of visit_due_of
@@ -222,8 +220,8 @@ module _ (k : Clocks) (word : InWord k) (count room : ℕ) (small : count ≤ 4)
       by_cases (Kept false) (leb count i) (λ f on. (four, clear, λ u x. subst (Begun t k) (sym (h u x)) (default_keeps t k)))
       (λ f. let lt : i < count = leb-false count i f in
       by_cases (λ (x : Turn). Kept false (turned i x b)) (is_named k t (mark_of b.place i) (state_at b i))
-      (λ n. either (λ (x : Turn). Kept false (turned i x b)) (ltb free 80) (ends_turn false 6 six i)
-      (either (λ (x : Turn). Kept false (turned i x b)) (leb 65536 b.place.visits) (ends_turn false 16 sixteen i) (visit lt n)))
+      (λ n. either (λ (x : Turn). Kept false (turned i x b)) (ltb free 80) (ends_turn false (Err refusal.NoRoom) six i)
+      (either (λ (x : Turn). Kept false (turned i x b)) (leb 65536 b.place.visits) (ends_turn false (Err refusal.Visits) sixteen i) (visit lt n)))
       (λ n on. (four_set i (state_at b i), clear, each i lt (state_at b i) (λ u s. s ≡ default_iic) (h i) (λ u x ne. h u x))))
     where
       no_visit : U i → is_named k t (mark_of b.place i) (state_at b i) ≡ true → ⊥
@@ -233,7 +231,7 @@ module _ (k : Clocks) (word : InWord k) (count room : ℕ) (small : count ≤ 4)
       visit : i < count → is_named k t (mark_of b.place i) (state_at b i) ≡ true → Kept false (turned i (visited_by t i (player.outcome_of k t (state_at b i) verb.Visit) b.place) b)
       visit lt n on = (
         four_set i (player.outcome_of k t (state_at b i) verb.Visit).state,
-        marked i (not (eqb (player.outcome_of k t (state_at b i) verb.Visit).refusal 0)) (λ x. absurd (no_visit x n)),
+        marked i (not (eqb (number_ended (player.outcome_of k t (state_at b i) verb.Visit).answer) 0)) (λ x. absurd (no_visit x n)),
         each i lt (player.outcome_of k t (state_at b i) verb.Visit).state (λ u s. s ≡ default_iic) (λ x. absurd (no_visit x n)) (λ u x ne. h u x),
       )
 
@@ -241,16 +239,16 @@ module _ (k : Clocks) (word : InWord k) (count room : ℕ) (small : count ≤ 4)
   unfolding play_of play_now_of play_line_of
   plays_first t e h =
       lines (Kept false) (to_reports count t b) (λ u c. play_now_of k count free number t u c b)
-      (ends false 6 six) (stays_first (Plays t) e h) (λ f. to_reports_lem)
+      (ends false (Err refusal.NoRoom) six) (stays_first (Plays t) e h) (λ f. to_reports_lem)
       (λ i c f. by_cases (Kept false) (same_time c.time t)
-      (λ same. by_cases (λ (x : Turn). Kept false (turned i x b)) (ltb free 80) (λ full. ends_turn false 6 six i)
+      (λ same. by_cases (λ (x : Turn). Kept false (turned i x b)) (ltb free 80) (λ full. ends_turn false (Err refusal.NoRoom) six i)
       (λ space. play i c f same (made_line k count room r t i c e f same space))) (λ g. to_reports_lem))
       (line_in count r) refl
     where
       to_reports_lem : Kept false (to_reports count t b)
       to_reports_lem on = (four, clear, (default_view, λ u x. (λ le. on_sound t k (state_at b u) (h u x) (on refl u x), λ lt. absurd (not_below u lt))))
 
-      play : (i : ℕ) (c : ScriptCall) → line_in count r ≡ judged.Plays i c → same_time c.time t ≡ true → made k count room r ≡ one i (call_from c.time c.verb)
+      play : (i : ℕ) (c : ScriptCall) → line_in count r ≡ Some (Ok (i, c)) → same_time c.time t ≡ true → made k count room r ≡ one i (call_from c.time c.verb)
           → Kept false (turned i (played_by c.time number i (player.outcome_of k c.time (state_at b i) c.verb) b.place) b)
       play i c f same is_made on =
           let s : Iic = (player.outcome_of k c.time (state_at b i) c.verb).state in
@@ -277,34 +275,34 @@ module _ (k : Clocks) (word : InWord k) (count room : ℕ) (small : count ≤ 4)
 
   -- ### From the first reports on
 
-  stays_later : (d : Doing) → doing_in r ≡ d → Stage k U true d b.states → (x : Told) → Kept true (record { bench = b; told = x; answered = true })
+  stays_later : (d : Doing) → doing_in r ≡ d → Stage k U true d b.states → (x : Option Line) → Kept true (record { bench = b; told = x; answered = true })
   stays_later d e h x on = (four, clear, subst (λ (y : Doing). Stage k U true y b.states) (sym e) h)
 
-  look_later : (p : Last) → doing_in r ≡ Looks p → Stage k U true (Looks p) b.states → Kept true (look_of k count free number (next_of r.lines) p b)
+  look_later : (p : Option Time) → doing_in r ≡ Looks p → Stage k U true (Looks p) b.states → Kept true (look_of k count free number (next_of r.lines) p b)
   unfolding look_of seek_of goes_to unmarked
-  look_later First e h = absurd (h.1 some is_some)
-  look_later (After m) e h =
-      lines (Kept true) (seek_of k count (After m) Never b) (λ u c. seek_of k count (After m) (At c.time) b)
-      (ends true 6 six) (stays_later (Looks (After m)) e h) (λ f. seek f Never (moment_of k count (After m) Never b) refl)
-      (λ u c f. seek (ap goes_on f) (At c.time) (moment_of k count (After m) (At c.time) b) refl) (line_in count r) refl
+  look_later None e h = absurd (h.1 some is_some)
+  look_later (Some m) e h =
+      lines (Kept true) (seek_of k count (Some m) (Ok None) b) (λ u c. seek_of k count (Some m) (Ok (Some c.time)) b)
+      (ends true (Err refusal.NoRoom) six) (stays_later (Looks (Some m)) e h) (λ f. seek f (Ok None) (moment_of k count (Some m) (Ok None) b) refl)
+      (λ u c f. seek (ap goes_on f) (Ok (Some c.time)) (moment_of k count (Some m) (Ok (Some c.time)) b) refl) (line_in count r) refl
     where
       -- a moment that isn't past a deadline of theirs
-      comes : goes_on (line_in count r) ≡ true → (line : Deadline) (t : Time) → moment_of k count (After m) line b ≡ At t → Stage k U true (Visits t 0) b.states
+      comes : goes_on (line_in count r) ≡ true → (line : Result (Option Time) Refusal) (t : Time) → moment_of k count (Some m) line b ≡ Ok (Some t) → Stage k U true (Visits t 0) b.states
       comes f line t g = (
         fired t k h.0,
         λ u x. (
           λ le ok.
-              visited_sound k default_rates m h.0 (state_at b u) (h.1 u x) (dated u x (asks_now k count room r (After m) e f)) t
+              visited_sound k default_rates m h.0 (state_at b u) (h.1 u x) (dated u x (asks_now k count room r (Some m) e f)) t
               (not_past_lem k count m line b t g u (below u x) (omega (arith, below u x, small)) (clear u x)) default_spaced word ok,
           λ lt. absurd (not_below u lt),
         ),
       )
 
-      seek : goes_on (line_in count r) ≡ true → (line : Deadline) (x : Deadline) → moment_of k count (After m) line b ≡ x → Kept true (seek_by (After m) b x)
-      seek f line Never g = λ on. (four, clear, (h.0, λ u x z. (h.1 u x).keeps.filtered))
-      seek f line (At t) g =
-          either (Kept true) (is_present (After m) t) (λ on. (four, clear, comes f line t g)) (λ on. (four, λ u x. none_marked u, comes f line t g))
-      seek f line (Refused n) g = λ on. (four, clear, (h.0, λ u x z. (h.1 u x).keeps.filtered))
+      seek : goes_on (line_in count r) ≡ true → (line : Result (Option Time) Refusal) (x : Result (Option Time) Refusal) → moment_of k count (Some m) line b ≡ x → Kept true (seek_by (Some m) b x)
+      seek f line (Ok None) g = λ on. (four, clear, (h.0, λ u x z. (h.1 u x).keeps.filtered))
+      seek f line (Ok (Some t)) g =
+          either (Kept true) (is_present (Some m) t) (λ on. (four, clear, comes f line t g)) (λ on. (four, λ u x. none_marked u, comes f line t g))
+      seek f line (Err n) g = λ on. (four, clear, (h.0, λ u x z. (h.1 u x).keeps.filtered))
 
   visits_later : (t : Time) (i : ℕ) → doing_in r ≡ Visits t i → Stage k U true (Visits t i) b.states → Kept true (visits_of k count free t i b)
   unfolding visits_of visit_of visit_due_of
@@ -312,8 +310,8 @@ module _ (k : Clocks) (word : InWord k) (count room : ℕ) (small : count ≤ 4)
       by_cases (Kept true) (leb count i) (λ f on. (four, clear, (v, λ u x. (h.1 u x).1 (all u x (leb-true count i f)))))
       (λ f. let lt : i < count = leb-false count i f in
       by_cases (λ (x : Turn). Kept true (turned i x b)) (is_named k t (mark_of b.place i) (state_at b i))
-      (λ n. by_cases (λ (x : Turn). Kept true (turned i x b)) (ltb free 80) (λ full. ends_turn true 6 six i)
-      (λ space. by_cases (λ (x : Turn). Kept true (turned i x b)) (leb 65536 b.place.visits) (λ many. ends_turn true 16 sixteen i)
+      (λ n. by_cases (λ (x : Turn). Kept true (turned i x b)) (ltb free 80) (λ full. ends_turn true (Err refusal.NoRoom) six i)
+      (λ space. by_cases (λ (x : Turn). Kept true (turned i x b)) (leb 65536 b.place.visits) (λ many. ends_turn true (Err refusal.Visits) sixteen i)
       (λ few. visit lt n (made_visit k count room r t i e f n space few))))
       (λ n on. (four_set i (state_at b i), clear, (v, each i lt (state_at b i) (LaterAt k v (Visits t (i + 1))) (passed n) others))))
     where
@@ -344,7 +342,7 @@ module _ (k : Clocks) (word : InWord k) (count room : ℕ) (small : count ≤ 4)
           → Kept true (turned i (visited_by t i (player.outcome_of k t (state_at b i) verb.Visit) b.place) b)
       visit lt n is_made on = (
         four_set i (player.outcome_of k t (state_at b i) verb.Visit).state,
-        marked i (not (eqb (player.outcome_of k t (state_at b i) verb.Visit).refusal 0))
+        marked i (not (eqb (number_ended (player.outcome_of k t (state_at b i) verb.Visit).answer) 0))
             (λ x. no_mark k t (state_at b i) verb.Visit (fine i x (advance t) is_made)),
         (
           v,
@@ -360,16 +358,16 @@ module _ (k : Clocks) (word : InWord k) (count room : ℕ) (small : count ≤ 4)
   unfolding play_of play_now_of play_line_of
   plays_later t e h =
       lines (Kept true) (to_reports count t b) (λ u c. play_now_of k count free number t u c b)
-      (ends true 6 six) (stays_later (Plays t) e h) (λ f. to_reports_lem)
+      (ends true (Err refusal.NoRoom) six) (stays_later (Plays t) e h) (λ f. to_reports_lem)
       (λ i c f. by_cases (Kept true) (same_time c.time t)
-      (λ same. by_cases (λ (x : Turn). Kept true (turned i x b)) (ltb free 80) (λ full. ends_turn true 6 six i)
+      (λ same. by_cases (λ (x : Turn). Kept true (turned i x b)) (ltb free 80) (λ full. ends_turn true (Err refusal.NoRoom) six i)
       (λ space. play i c f same (made_line k count room r t i c e f same space))) (λ g. to_reports_lem))
       (line_in count r) refl
     where
       to_reports_lem : Kept true (to_reports count t b)
       to_reports_lem on = (four, clear, (h.0, λ u x. (λ le. h.1 u x, λ lt. absurd (not_below u lt))))
 
-      play : (i : ℕ) (c : ScriptCall) → line_in count r ≡ judged.Plays i c → same_time c.time t ≡ true → made k count room r ≡ one i (call_from c.time c.verb)
+      play : (i : ℕ) (c : ScriptCall) → line_in count r ≡ Some (Ok (i, c)) → same_time c.time t ≡ true → made k count room r ≡ one i (call_from c.time c.verb)
           → Kept true (turned i (played_by c.time number i (player.outcome_of k c.time (state_at b i) c.verb) b.place) b)
       play i c f same is_made on =
           let s : Iic = (player.outcome_of k c.time (state_at b i) c.verb).state in
@@ -393,7 +391,7 @@ module _ (k : Clocks) (word : InWord k) (count room : ℕ) (small : count ≤ 4)
   unfolding reports_of report_of
   reports_later t w i e h =
       by_cases (Kept true) (leb count i) (λ f on. (four, clear, (told w t k h.0, λ u x. (h.1 u x).1 (all u x (leb-true count i f)))))
-      (λ f. by_cases (λ (x : Turn). Kept true (turned i x b)) (ltb free 80) (λ full. ends_turn true 6 six i)
+      (λ f. by_cases (λ (x : Turn). Kept true (turned i x b)) (ltb free 80) (λ full. ends_turn true (Err refusal.NoRoom) six i)
       (λ space. report (leb-false count i f) (made_report k count room r t w i e f space)))
     where
       all : (u : ℕ) → U u → count ≤ i → u < i

@@ -1,6 +1,6 @@
 -- Definitions: the calls that a bench makes of its units, step by step (document 02, (g)). That the bench's own definition makes these is `states_after` in
 -- proofs/CallLaws.antt.
-use Rattle.std.specs.Prelude.{ℕ, ◌-◌, Bool, true, false, cond, not, ◌&&◌, List, leb, ltb, length}
+use Rattle.std.specs.Prelude.{ℕ, ◌-◌, Bool, true, false, cond, not, ◌&&◌, List, leb, ltb, length, None, Some, Ok, Err}
 use Rattle.clocks.specs.declared.Clocks.{Clocks}
 use Rattle.time.specs.declared.Time.{Time}
 use Rattle.time.specs.Time.{same_time}
@@ -10,13 +10,12 @@ use Rattle.lines.specs.declared.Verb.{Verb}
 use Rattle.lines.specs.declared.Verb.TheVariants as verb
 use Rattle.bench.specs.declared.Doing.{Doing}
 use Rattle.bench.specs.declared.Doing.TheVariants.{Looks, Visits, Plays, Reports, Ended}
-use Rattle.script.specs.declared.Judged.{Judged}
-use Rattle.script.specs.declared.Judged.TheVariants as judged
 use Rattle.bench.specs.Bench.{Run, after, start}
 use Rattle.script.specs.Script.{next_of}
-use Rattle.bench.specs.Steps.{judged_by}
+use Rattle.bench.specs.Steps.{Judged, judged_by}
 use Rattle.units.specs.Units.{is_named}
 use Rattle.bench.specs.Moments.{mark_of, state_at}
+use Rattle.script.specs.declared.Unplayed.TheVariants.{Unread, Early}
 
 -- ## A run
 
@@ -63,10 +62,10 @@ call_from t verb.Deadline = deadline
 
 -- "plays script lines of that moment"
 abbrev pub line_made : Bool → Time → Judged → Made
-line_made room t judged.NoLine = none
-line_made room t judged.Unread = none
-line_made room t (judged.Early u) = none
-line_made room t (judged.Plays u c) = cond (same_time c.time t && room) (one u (call_from c.time c.verb)) none
+line_made room t None = none
+line_made room t (Some (Err Unread)) = none
+line_made room t (Some (Err (Early u))) = none
+line_made room t (Some (Ok (u, c))) = cond (same_time c.time t && room) (one u (call_from c.time c.verb)) none
 
 -- "then reports to every peripheral"
 abbrev pub made_by : Clocks → ℕ → ℕ → Run → Doing → Made
@@ -83,10 +82,10 @@ made k count room r = made_by k count room r (doing_in r)
 
 -- no line is answered 4 or 5 first
 abbrev pub goes_on : Judged → Bool
-goes_on judged.NoLine = true
-goes_on judged.Unread = false
-goes_on (judged.Early u) = false
-goes_on (judged.Plays u c) = true
+goes_on None = true
+goes_on (Some (Err Unread)) = false
+goes_on (Some (Err (Early u))) = false
+goes_on (Some (Ok (u, c))) = true
 
 -- a step that looks for the next moment asks every unit for its deadline
 abbrev pub asks_by : Bool → Doing → Bool

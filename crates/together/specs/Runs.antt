@@ -7,6 +7,7 @@ use Rattle.wires.specs.Units.{Answered, On}
 use Rattle.bench.specs.declared.Doing.{Doing}
 use Rattle.bench.specs.declared.Doing.TheVariants.{Looks, Visits, Plays, Reports, Ended}
 use Rattle.together.specs.Calls.{asks, doing_in, made, one, run_at, unit_in}
+use Rattle.refusals.specs.Refusals.{number_ended}
 
 -- the bench reports the levels
 abbrev pub is_reporting : Doing → Bool
@@ -31,7 +32,7 @@ is_between (Looks present) = true
 is_between (Visits t u) = false
 is_between (Plays t) = false
 is_between (Reports t w u) = false
-is_between (Ended n) = eqb n 0
+is_between (Ended n) = eqb (number_ended n) 0
 
 -- Document 02, (g): "Two peripherals enabled and gated on in the first moment and ever since, .., with no call of either refused, deadlines included, show equal
 -- filtered levels after every moment, whatever else their scripts write." Over any clock set, script, buffer and number of steps, whatever the other units do. Each

@@ -1,46 +1,41 @@
 -- Laws: what a bench does to a unit none of whose calls is refused, in the words of `wires`. Assumes nothing.
-use Rattle.std.specs.Prelude.{ℕ, zero, suc, ◌≤◌, ◌<◌, Bool, true, false, cond, not, ◌&&◌, List, [], ◌∷◌, refl, eqb, leb, ltb, drop, get_or, length}
+use Rattle.std.specs.Prelude.{ℕ, zero, suc, ◌≤◌, ◌<◌, Bool, true, false, cond, not, ◌&&◌, List, [], ◌∷◌, refl, eqb, leb, ltb, drop, get_or, length, Some, Option, None, Ok, Err, Result, ⊤, option_and_then}
 use Rattle.std.proofs.Common.{true≢false, sym, ap, ◌∙◌, subst}
 use Rattle.std.proofs.Math.Path.{◌≡◌}
 use native.Mathlib.Omega.{arith}
 use borrow.Author.Tests.{le-ltb, leb-false, lt-ltb, ltb-true, ne_eqb}
 use Rattle.clocks.specs.declared.Clocks.{Clocks}
-use Rattle.clocks.specs.declared.wait.Deadline.{Deadline}
-use Rattle.clocks.specs.declared.wait.Deadline.TheVariants.{Never, At, Refused}
 use Rattle.time.specs.Time.{earlier, same_time, time_of}
 use Rattle.time.specs.Truths.{by_cases, either}
 use Rattle.time.specs.declared.Time.{Time}
 use Rattle.waits.specs.Ahead.{Ahead, NotRefused}
 use Rattle.waits.proofs.DueLaws.{ahead_both, sooner_unrefused}
 use Rattle.waits.specs.Ends.{due_of, sooner}
-use Rattle.waits.specs.declared.Due.TheVariants as due
 use Rattle.hosts.specs.Calls.{is_now, outcome_of}
-use Rattle.iic.specs.Calls.{deadline_of}
-use Rattle.iic.specs.Told.{Answer, refusal, nothing, byte, bit, no_levels, the_levels, no_moment, moment, is_refusal, number_of}
+use Rattle.iic.specs.Calls.{advance_of, deadline_of, input_pins_of, read_of, set_gate_of, write_of}
+use Rattle.iic.specs.Told.{Answer, refusal, nothing, byte, bit, no_levels, the_levels, no_moment, moment, is_refusal, number_of, of_byte, of_deadline, of_end, of_truth}
 use Rattle.iic.specs.declared.Iic.{Iic}
 use Rattle.answers.specs.Calls as player
 use Rattle.lines.specs.Lines.{may_follow}
 use Rattle.lines.specs.Reading.{digit_of, timed_of, verb_of}
 use Rattle.lines.specs.declared.Call.{Call as ScriptCall}
-use Rattle.lines.specs.declared.Last.TheVariants.{After}
 use Rattle.lines.specs.declared.Verb.{Verb}
 use Rattle.lines.specs.declared.Verb.TheVariants as verb
-use Rattle.lines.specs.declared.reading.MaybeTime.{MaybeTime}
-use Rattle.lines.specs.declared.reading.MaybeTime.TheVariants.{NoTime, IsTime}
-use Rattle.lines.specs.declared.reading.MaybeVerb.{MaybeVerb}
-use Rattle.lines.specs.declared.reading.MaybeVerb.TheVariants.{NoVerb, IsVerb}
 use Rattle.wires.specs.Units.{Answered, NotPast, named}
 use Rattle.bench.specs.declared.Bench.{Bench}
 use Rattle.bench.specs.declared.Place.{Place}
-use Rattle.script.specs.declared.Next.{Next}
-use Rattle.script.specs.declared.Next.TheVariants.{NoLine, Malformed, Calls}
-use Rattle.script.specs.declared.Judged.{Judged}
-use Rattle.script.specs.declared.Judged.TheVariants as judged
-use Rattle.script.specs.Script.{called_of, is_scripted, line_of, next_of, with_time, with_verb}
-use Rattle.bench.specs.Steps.{judged_as, judged_by}
+use Rattle.script.specs.Script.{called_of, is_scripted, line_of, next_of}
+use Rattle.bench.specs.Steps.{Judged, judged_by}
 use Rattle.units.specs.Units.{is_at, is_named, is_present, names_by, names_of}
 use Rattle.bench.specs.Moments.{mark_of, moment_of, named_by, state_at}
 use Rattle.together.specs.Calls.{call_from}
+use Rattle.script.specs.declared.Unplayed.{Unplayed}
+use Rattle.script.specs.declared.Unplayed.TheVariants.{Unread, Early}
+use Rattle.script.specs.Script as Script
+use Rattle.refusals.specs.declared.Refusal.{Refusal}
+use Rattle.refusals.specs.Refusals.{number_ended}
+use Rattle.answers.specs.Calls.{moment_in, valued}
+use Rattle.answers.specs.declared.Value.TheVariants as value
 
 -- ## Calls
 
@@ -54,14 +49,31 @@ state_is k t s (verb.Gate on) = refl
 state_is k t s verb.Visit = refl
 state_is k t s verb.Deadline = refl
 
-number_is : (k : Clocks) (t : Time) (s : Iic) (v : Verb) → (player.outcome_of k t s v).refusal ≡ number_of (outcome_of k (call_from t v) s).answer
+of_steps : (x : Result ⊤ Refusal) → number_ended (valued (λ _. None) x) ≡ number_of (of_end x)
+of_steps (Ok u) = refl
+of_steps (Err r) = refl
+
+number_is : (k : Clocks) (t : Time) (s : Iic) (v : Verb) → number_ended (player.outcome_of k t s v).answer ≡ number_of (outcome_of k (call_from t v) s).answer
 unfolding player.outcome_of outcome_of
-number_is k t s (verb.Read a) = refl
-number_is k t s (verb.Write a b) = refl
-number_is k t s (verb.Pins scl sda) = refl
-number_is k t s (verb.Gate on) = refl
-number_is k t s verb.Visit = refl
-number_is k t s verb.Deadline = refl
+number_is k t s (verb.Read a) = of_reads (read_of s a t k).answer
+  where
+    of_reads : (x : Result ℕ Refusal) → number_ended (valued (λ b. Some (value.Byte b)) x) ≡ number_of (of_byte x)
+    of_reads (Ok b) = refl
+    of_reads (Err r) = refl
+number_is k t s (verb.Write a b) = of_steps (write_of s a b t k).answer
+number_is k t s (verb.Pins scl sda) = of_pins (input_pins_of s scl sda t k).answer
+  where
+    of_pins : (x : Result Bool Refusal) → number_ended (valued (λ b. Some (value.Bit b)) x) ≡ number_of (of_truth x)
+    of_pins (Ok b) = refl
+    of_pins (Err r) = refl
+number_is k t s (verb.Gate on) = of_steps (set_gate_of s on t k).answer
+number_is k t s verb.Visit = of_steps (advance_of s t k).answer
+number_is k t s verb.Deadline = of_deadlines (deadline_of s k)
+  where
+    of_deadlines : (x : Result (Option Time) Refusal) → number_ended (valued moment_in x) ≡ number_of (of_deadline x)
+    of_deadlines (Ok None) = refl
+    of_deadlines (Ok (Some u)) = refl
+    of_deadlines (Err r) = refl
 
 number_none : (a : Answer) → is_refusal a ≡ false → number_of a ≡ 0
 number_none (refusal n) e = absurd (true≢false e)
@@ -74,7 +86,7 @@ number_none no_moment e = refl
 number_none (moment t) e = refl
 
 -- so a visit that is answered leaves no mark
-pub no_mark : (k : Clocks) (t : Time) (s : Iic) (v : Verb) → Answered k (call_from t v) s → not (eqb (player.outcome_of k t s v).refusal 0) ≡ false
+pub no_mark : (k : Clocks) (t : Time) (s : Iic) (v : Verb) → Answered k (call_from t v) s → not (eqb (number_ended (player.outcome_of k t s v).answer) 0) ≡ false
 no_mark k t s v h = ap (λ (n : ℕ). not (eqb n 0)) (number_is k t s v ∙ number_none (outcome_of k (call_from t v) s).answer h)
 
 -- ## Script lines
@@ -84,47 +96,50 @@ pub record Playable (count u : ℕ) (c : ScriptCall) : Type 0 where
   pub there : u < count
   pub scripted : is_scripted c.verb ≡ true
 
-abbrev Scripted : Next → Type 0
-Scripted NoLine = Unit {0}
-Scripted Malformed = Unit {0}
-Scripted (Calls u c) = is_scripted c.verb ≡ true
+abbrev Scripted : Option (ℕ × ScriptCall) → Type 0
+Scripted None = Unit {0}
+Scripted (Some (u, c)) = is_scripted c.verb ≡ true
+
+abbrev NextScripted : Option (Option (ℕ × ScriptCall)) → Type 0
+NextScripted None = Unit {0}
+NextScripted (Some line) = Scripted line
 
 abbrev Judges : ℕ → Judged → Type 0
-Judges count judged.NoLine = Unit {0}
-Judges count judged.Unread = Unit {0}
-Judges count (judged.Early u) = Unit {0}
-Judges count (judged.Plays u c) = Playable count u c
+Judges count None = Unit {0}
+Judges count (Some (Err Unread)) = Unit {0}
+Judges count (Some (Err (Early u))) = Unit {0}
+Judges count (Some (Ok (u, c))) = Playable count u c
 
 line_scripted : (l : List ℕ) → Scripted (line_of l)
 unfolding line_of called_of
 line_scripted l = timed (timed_of l)
   where
-    of_verb : (u : ℕ) (t : Time) (v : MaybeVerb) → Scripted (with_verb u t v)
-    of_verb u t NoVerb = tt
-    of_verb u t (IsVerb v) = by_cases Scripted (is_scripted v) (λ e. e) (λ e. tt)
+    of_verb : (u : ℕ) (t : Time) (v : Option Verb) → Scripted (option_and_then (λ w. cond (is_scripted w) (Some (u, record { time = t; verb = w })) None) v)
+    of_verb u t None = tt
+    of_verb u t (Some v) = by_cases Scripted (is_scripted v) (λ e. e) (λ e. tt)
 
     called : (t : Time) (m : List ℕ) → Scripted (called_of t m)
     called t m =
         either Scripted (ltb (length m) 2) tt
         (either Scripted (not (ltb (digit_of (get_or m 0 0)) 10 && eqb (get_or m 1 0) 9)) tt (of_verb (digit_of (get_or m 0 0)) t (verb_of (drop 2 m))))
 
-    timed : (x : MaybeTime) → Scripted (with_time x l)
-    timed NoTime = tt
-    timed (IsTime t m) = called t (drop m l)
+    timed : (x : Option (Time × ℕ)) → Scripted (option_and_then (λ t. called_of t.0 (drop t.1 l)) x)
+    timed None = tt
+    timed (Some (t, m)) = called t (drop m l)
 
-next_scripted : (ls : List (List ℕ)) → Scripted (next_of ls)
+next_scripted : (ls : List (List ℕ)) → NextScripted (next_of ls)
 next_scripted [] = tt
 next_scripted (l ∷ ls) = line_scripted l
 
-judges : (count : ℕ) (n : Next) (p : Place) → Scripted n → Judges count (judged_by count n p)
-unfolding judged_by judged_as
-judges count NoLine p h = tt
-judges count Malformed p h = tt
-judges count (Calls u c) p h =
-    by_cases (Judges count) (leb count u) (λ e. tt)
-    (λ e. either (Judges count) (may_follow p.last c.time) (record { there = leb-false count u e; scripted = h }) tt)
+judges : (count : ℕ) (n : Option (Option (ℕ × ScriptCall))) (p : Place) → NextScripted n → Judges count (judged_by count n p)
+unfolding Script.judged_by Script.judged_as
+judges count None p h = tt
+judges count (Some None) p h = tt
+judges count (Some (Some (u, c))) p h =
+    by_cases (λ (x : Result (ℕ × ScriptCall) Unplayed). Judges count (Some x)) (leb count u) (λ e. tt)
+    (λ e. either (λ (x : Result (ℕ × ScriptCall) Unplayed). Judges count (Some x)) (may_follow p.last c.time) (record { there = leb-false count u e; scripted = h }) tt)
 
-pub playable : (count u : ℕ) (c : ScriptCall) (ls : List (List ℕ)) (p : Place) → judged_by count (next_of ls) p ≡ judged.Plays u c → Playable count u c
+pub playable : (count u : ℕ) (c : ScriptCall) (ls : List (List ℕ)) (p : Place) → judged_by count (next_of ls) p ≡ Some (Ok (u, c)) → Playable count u c
 playable count u c ls p e = subst (Judges count) e (judges count (next_of ls) p (next_scripted ls))
 
 -- ## The moment that a deadline names
@@ -137,26 +152,26 @@ named_is k t s = go (deadline_of s k)
     apart : (a b : ℕ) → a < b → a ≡ b → ⊥
     apart a b l f = omega arith
 
-    now_is : (b : Bool) → b ≡ is_now (cond b due.Now due.NotNow)
+    now_is : (b : Bool) → b ≡ is_now (cond b (Ok true) (Ok false))
     now_is true = refl
     now_is false = refl
 
     at : (x : Time) (e : Bool) → ltb (time_of x) (time_of t) ≡ e
-        → is_at (cond (not e && not (false && is_present (After t) x)) (At x) Never) t ≡ is_now (due_of (At x) t)
-    at x true e = sym (ap (λ (b : Bool). is_now (cond b due.Now due.NotNow)) (ne_eqb (time_of x) (time_of t) (apart (time_of x) (time_of t) (ltb-true (time_of x) (time_of t) e))))
+        → is_at (cond (not e && not (false && is_present (Some t) x)) (Ok (Some x)) (Ok None)) t ≡ is_now (due_of (Ok (Some x)) t)
+    at x true e = sym (ap (λ (b : Bool). is_now (cond b (Ok true) (Ok false))) (ne_eqb (time_of x) (time_of t) (apart (time_of x) (time_of t) (ltb-true (time_of x) (time_of t) e))))
     at x false e = now_is (eqb (time_of x) (time_of t))
 
-    go : (d : Deadline) → is_at (names_by (After t) false d) t ≡ is_now (due_of d t)
-    go Never = refl
-    go (At x) = at x (ltb (time_of x) (time_of t)) refl
-    go (Refused n) = refl
+    go : (d : Result (Option Time) Refusal) → is_at (names_by (Some t) false d) t ≡ is_now (due_of d t)
+    go (Ok None) = refl
+    go (Ok (Some x)) = at x (ltb (time_of x) (time_of t)) refl
+    go (Err n) = refl
 
 -- the moment that the bench goes to isn't past the deadline of a unit with no mark
-module _ (k : Clocks) (count : ℕ) (now : Time) (line : Deadline) (b : Bench) (m : Time) (chosen : moment_of k count (After now) line b ≡ At m) where
-  abbrev names : ℕ → Deadline
-  names u = named_by k count (After now) b u
+module _ (k : Clocks) (count : ℕ) (now : Time) (line : Result (Option Time) Refusal) (b : Bench) (m : Time) (chosen : moment_of k count (Some now) line b ≡ Ok (Some m)) where
+  abbrev names : ℕ → Result (Option Time) Refusal
+  names u = named_by k count (Some now) b u
 
-  same_at : (x y : Time) → At x ≡ At y → x ≡ y
+  same_at : (x y : Time) → ◌≡◌ {A = Result (Option Time) Refusal} (Ok (Some x)) (Ok (Some y)) → x ≡ y
   same_at x y e = cc
 
   all_ahead : (u : ℕ) → u < 4 → Ahead m (names u)
@@ -166,7 +181,7 @@ module _ (k : Clocks) (count : ℕ) (now : Time) (line : Deadline) (b : Bench) (
       not_refused_lem : NotRefused (sooner (names 0) (sooner (names 1) (sooner (names 2) (sooner (names 3) line))))
       not_refused_lem n e = differ (sym chosen ∙ e)
         where
-          differ : At m ≡ Refused n → ⊥
+          differ : ◌≡◌ {A = Result (Option Time) Refusal} (Ok (Some m)) (Err n) → ⊥
           differ f = let z : ◌≡◌ {A = ℕ} 0 1 = cc in omega arith
 
       ahead : Ahead m (sooner (names 0) (sooner (names 1) (sooner (names 2) (sooner (names 3) line))))

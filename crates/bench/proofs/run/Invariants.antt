@@ -3,8 +3,8 @@ use Rattle.bench.specs.Cursor.{left}
 use Rattle.bench.proofs.Loops.{Going}
 use Rattle.bench.proofs.run.Given as goal
 
-abbrev pub invariant-loop-going : goal.invariant-loop-going
-invariant-loop-going l = Going l.clocks l.count l.script l.initial.out l.out l.bench l.cursor l.written l.going
+abbrev pub invariant-loop-all : goal.invariant-loop-all
+invariant-loop-all l = Going l.all.clocks l.all.count l.script l.initial.out l.out l.bench l.cursor l.written
 
-abbrev pub decreases-loop-going : goal.decreases-loop-going
-decreases-loop-going l = steps_left l.clocks l.count l.bench (left l.script l.cursor.at l.cursor.lines)
+abbrev pub decreases-loop-all : goal.decreases-loop-all
+decreases-loop-all l = steps_left l.all.clocks l.all.count l.bench (left l.script l.cursor.at l.cursor.lines)
