@@ -2,19 +2,20 @@
 -- and 20 carry the lowest address that lies in two ranges, or in none (`two_lowest`, `none_lowest`); the lookup gives the unit of the one range that
 -- an address lies in (`unit_of_one`).
 -- Assumes nothing.
-use Rattle.std.specs.Prelude.{Bool, true, false, cond, List, [], ◌∷◌, ◌≡◌, refl, ℕ, zero, suc, ◌+◌, ◌≤◌, ◌<◌, ltb, eqb, length, get_or}
-use Rattle.std.proofs.Common.{inl, inr, ⊎_elim, sym, ◌∙◌, arith, ltb-true, ltb-false, le-ltb, eqb-true, ne_eqb}
+use Rattle.std.specs.Prelude.{Bool, true, false, cond, List, [], ◌∷◌, ◌≡◌, refl, ℕ, zero, suc, ◌+◌, ◌≤◌, ◌<◌, ltb, length, get_or, ⊤, Option, None, Some, Result, Ok, Err}
+use Rattle.std.proofs.Common.{⊎_elim, sym, ◌∙◌, arith, ltb-true, ltb-false, le-ltb, eqb-true, ne_eqb}
 use Rattle.std.proofs.lemmas.Bool.{eqb-false}
 use Rattle.lines.specs.NumberLaws.{below_or_not, chosen}
 use Rattle.map.specs.declared.Range.{Range}
 use Rattle.map.specs.declared.Map.{Map}
-use Rattle.map.specs.declared.Checked.TheVariants.{Accepted, Refused}
-use Rattle.map.specs.Map.{addresses, check_of, check_ranges, holders_of, in_none, in_two, lies, lowest, ranges_of, unit_at, wrong_of}
+use Rattle.map.specs.declared.Fault.{Fault}
+use Rattle.map.specs.declared.Fault.TheVariants.{Line, InTwo, InNone}
+use Rattle.map.specs.Map.{addresses, check_of, check_ranges, holders_of, in_none, in_two, lies, lowest, ranges_of, unit_at, unless_wrong, wrong_of}
 use Rattle.map.specs.Meaning.{InOne, TwoAt, NoneAt, Means}
 use Rattle.map.proofs.MapLaws.{lowest_told, check_ranges_lem, check_fine, wrong_few, not_both}
 
-pub no_refusal : {A : Type 0} (n a : ℕ) → Refused n a ≡ Accepted → A
-no_refusal n a e = absurd (let z : ◌≡◌ {A = ℕ} 0 1 = cc in omega arith)
+pub no_refusal : {A : Type 0} (f : Fault) → ◌≡◌ {A = Result ⊤ Fault} (Err f) (Ok tt) → A
+no_refusal f e = absurd (let z : ◌≡◌ {A = ℕ} 0 1 = cc in omega arith)
 
 -- ## Accepted
 
@@ -29,30 +30,33 @@ some_one rs h a k = some (holders_of rs a) (eqb-false (holders_of rs a) 0 ((lowe
     some zero h = absurd (h refl)
     some (suc n) h = omega arith
 
-ranges_accepted : (rs : List Range) → check_ranges rs ≡ Accepted → InOne rs
+ranges_accepted : (rs : List Range) → check_ranges rs ≡ Ok tt → InOne rs
 unfolding check_ranges
 ranges_accepted rs e a h =
     ⊎_elim
-    (λ t. no_refusal 19 (lowest (in_two rs)) t.1)
+    (λ t. no_refusal (InTwo (lowest (in_two rs))) t.1)
     (λ t.
     ⊎_elim
-    (λ u. no_refusal 20 (lowest (in_none rs)) u.1)
+    (λ u. no_refusal (InNone (lowest (in_none rs))) u.1)
     (λ u.
     let p = none_two rs (ltb-false (lowest (in_two rs)) addresses t.0) a h in
     let q = some_one rs (ltb-false (lowest (in_none rs)) addresses u.0) a h in
     omega arith)
-    (chosen (ltb (lowest (in_none rs)) addresses) (Refused 20 (lowest (in_none rs))) Accepted Accepted t.1))
-    (chosen (ltb (lowest (in_two rs)) addresses) (Refused 19 (lowest (in_two rs))) (cond (ltb (lowest (in_none rs)) addresses) (Refused 20 (lowest (in_none rs))) Accepted) Accepted e)
+    (chosen (ltb (lowest (in_none rs)) addresses) (Err (InNone (lowest (in_none rs)))) (Ok tt) (Ok tt) t.1))
+    (chosen (ltb (lowest (in_two rs)) addresses) (Err (InTwo (lowest (in_two rs)))) (cond (ltb (lowest (in_none rs)) addresses) (Err (InNone (lowest (in_none rs)))) (Ok tt)) (Ok tt) e)
 
-pub accepted_sound : (m : Map) → check_of m ≡ Accepted → wrong_of m ≡ 0
+pub accepted_sound : (m : Map) → check_of m ≡ Ok tt → wrong_of m ≡ None
 unfolding check_of
-accepted_sound m e =
-    ⊎_elim (λ t. eqb-true (wrong_of m) 0 t.0) (λ t. no_refusal 4 (wrong_of m) t.1) (chosen (eqb (wrong_of m) 0) (check_ranges (ranges_of m)) (Refused 4 (wrong_of m)) Accepted e)
+accepted_sound m e = by (wrong_of m) refl e
+  where
+    by : (o : Option ℕ) → wrong_of m ≡ o → unless_wrong o (check_ranges (ranges_of m)) ≡ Ok tt → wrong_of m ≡ None
+    by None f e = f
+    by (Some n) f e = no_refusal (Line n) e
 
-pub accepted_few : (m : Map) → check_of m ≡ Accepted → m.count ≤ 64
+pub accepted_few : (m : Map) → check_of m ≡ Ok tt → m.count ≤ 64
 accepted_few m e = wrong_few m (accepted_sound m e)
 
-pub accepted_each : (m : Map) → check_of m ≡ Accepted → InOne (ranges_of m)
+pub accepted_each : (m : Map) → check_of m ≡ Ok tt → InOne (ranges_of m)
 accepted_each m e = ranges_accepted (ranges_of m) (check_ranges_lem m (accepted_sound m e) ∙ e)
 
 -- where no address has a property, none is the lowest
@@ -60,7 +64,7 @@ nowhere : (p : ℕ → Bool) → ((a : ℕ) → a < addresses → p a ≡ false)
 nowhere p h =
     ⊎_elim (λ (k : lowest p < addresses). not_both (p (lowest p)) ((lowest_told p).has k) (h (lowest p) k)) (λ (k : addresses ≤ lowest p). k) (below_or_not (lowest p) addresses)
 
-pub each_accepted : (m : Map) → wrong_of m ≡ 0 → InOne (ranges_of m) → check_of m ≡ Accepted
+pub each_accepted : (m : Map) → wrong_of m ≡ None → InOne (ranges_of m) → check_of m ≡ Ok tt
 each_accepted m w one =
     let rs = ranges_of m in
     sym (check_fine rs _ refl _
@@ -97,9 +101,9 @@ unfolding check_ranges
 check_means rs = by (ltb (lowest (in_two rs)) addresses) refl (ltb (lowest (in_none rs)) addresses) refl
   where
     by : (t : Bool) → ltb (lowest (in_two rs)) addresses ≡ t → (u : Bool) → ltb (lowest (in_none rs)) addresses ≡ u
-        → Means rs (cond t (Refused 19 (lowest (in_two rs))) (cond u (Refused 20 (lowest (in_none rs))) Accepted))
-    by true e u f = inl (refl, two_at rs (ltb-true (lowest (in_two rs)) addresses e))
-    by false e true f = inr (refl, none_at rs (ltb-false (lowest (in_two rs)) addresses e) (ltb-true (lowest (in_none rs)) addresses f))
+        → Means rs (cond t (Err (InTwo (lowest (in_two rs)))) (cond u (Err (InNone (lowest (in_none rs)))) (Ok tt)))
+    by true e u f = two_at rs (ltb-true (lowest (in_two rs)) addresses e)
+    by false e true f = none_at rs (ltb-false (lowest (in_two rs)) addresses e) (ltb-true (lowest (in_none rs)) addresses f)
     by false e false f = λ a h. let p = none_two rs (ltb-false (lowest (in_two rs)) addresses e) a h in let q = some_one rs (ltb-false (lowest (in_none rs)) addresses f) a h in omega arith
 
 -- ## The lookup

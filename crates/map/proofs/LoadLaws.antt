@@ -1,76 +1,70 @@
 -- Laws: a text is accepted exactly if its lines spell at most 64 ranges in which each address lies once (`accepted_text`, `text_accepted`).
 -- Assumes nothing.
-use Rattle.std.specs.Prelude.{Bool, true, false, cond, List, [], ◌∷◌, ◌≡◌, refl, ℕ, suc, ◌≤◌, min, leb, eqb, length}
-use Rattle.std.proofs.Common.{⊎_elim, sym, ap, ◌∙◌, subst, arith, length-take, leb-false, eqb-true, eq-eqb}
+use Rattle.std.specs.Prelude.{true, List, [], ◌∷◌, ◌≡◌, refl, ℕ, suc, ◌≤◌, min, length, ⊤, None, Result, Ok, Err}
+use Rattle.std.proofs.Common.{sym, ap, ◌∙◌, subst, arith, length-take}
 use Rattle.lines.specs.Lines.{lines_in}
-use Rattle.lines.specs.NumberLaws.{chosen}
 use Rattle.map.specs.declared.Range.{Range}
 use Rattle.map.specs.declared.Map.{Map}
-use Rattle.map.specs.declared.Checked.TheVariants.{Accepted, Refused}
-use Rattle.map.specs.declared.reading.MaybeRange.{MaybeRange}
-use Rattle.map.specs.declared.reading.MaybeRange.TheVariants.{NoRange, IsRange}
-use Rattle.map.specs.declared.reading.Read.{Read}
+use Rattle.map.specs.declared.Fault.{Fault}
+use Rattle.map.specs.declared.reading.Refused.{Refused}
 use Rattle.map.specs.Map.{check_of, ranges_of, wrong_from, wrong_of}
+use Rattle.map.specs.Format.{spell_ranges}
 use Rattle.map.specs.Meaning.{InOne, AllIn, none, and, Fits}
 use Rattle.map.proofs.MapLaws.{wrong_clear}
-use Rattle.map.proofs.AcceptLaws.{accepted_each, each_accepted, no_refusal}
-use Rattle.map.specs.Reading.{empty_map, wrong_next, with_range, with_line, range_of, read_from, read_of, check_read, load_of}
-use Rattle.map.specs.TextLaws.{Sized, added_sized, empty_sized, text_is_spelled, spelled_is_text}
+use Rattle.map.proofs.AcceptLaws.{accepted_each, each_accepted}
+use Rattle.map.specs.Reading.{empty_map, with_line, read_on, read_from, read_of, if_fine, load_of}
+use Rattle.map.specs.TextLaws.{Sized, added_sized, empty_sized, line_taken, err_is_not_ok, same_map, text_is_spelled, spelled_is_text}
 
 -- ## Maps that are read
 
-line_sized : (m : Map) (l : List ℕ) → Sized m → Sized (with_line m l).map
-unfolding with_line
-line_sized m l s = by (leb 64 m.count) refl (range_of l)
-  where
-    by : (t : Bool) → leb 64 m.count ≡ t → (q : MaybeRange) → Sized (cond t (wrong_next m) (with_range m q)).map
-    by true e q = s
-    by false e NoRange = s
-    by false e (IsRange r) = added_sized m r s (leb-false 64 m.count e)
-
-read_sized : (m : Map) (ls : List (List ℕ)) → Sized m → Sized (read_from m ls).map
+read_sized : (m : Map) (ls : List (List ℕ)) (r : Map) → Sized m → read_from m ls ≡ Ok r → Sized r
 unfolding read_from
-read_sized m [] s = s
-read_sized m (l ∷ ls) s = by (eqb (with_line m l).wrong 0) (line_sized m l s) (read_sized (with_line m l).map ls (line_sized m l s))
+read_sized m [] r s e = subst Sized (same_map m r e) s
+read_sized m (l ∷ ls) r s e = by (with_line m l) refl e (λ n. read_sized n ls r)
   where
-    by : (t : Bool) → Sized (with_line m l).map → Sized (read_from (with_line m l).map ls).map → Sized (cond t (read_from (with_line m l).map ls) (with_line m l)).map
-    by true x y = y
-    by false x y = x
+    by : (q : Result Map Refused) → with_line m l ≡ q → read_on q (λ n. read_from n ls) ≡ Ok r → ((n : Map) → Sized n → read_from n ls ≡ Ok r → Sized r) → Sized r
+    by (Err q) f e rest = err_is_not_ok q r e
+    by (Ok n) f e rest = let t = line_taken m l n f in rest n (subst Sized (sym t.next_is) (added_sized m t.range s t.few)) e
 
-text_few : (s : List ℕ) → (read_of s).map.count ≤ 64
+text_few : (s : List ℕ) (r : Map) → read_of s ≡ Ok r → r.count ≤ 64
 unfolding read_of
-text_few s = (read_sized empty_map (lines_in true s) empty_sized).few
+text_few s r e = (read_sized empty_map (lines_in true s) r empty_sized e).few
 
-all_sound : (n : ℕ) (rs : List Range) → AllIn rs → wrong_from n rs ≡ 0
+all_sound : (n : ℕ) (rs : List Range) → AllIn rs → wrong_from n rs ≡ None
 unfolding wrong_from
 all_sound n [] none = refl
 all_sound n (r ∷ rs) (and i is) = simp i.sound (all_sound (suc n) rs is)
 
 -- ## Texts
 
-both_fine : (r : Read) → check_read r ≡ Accepted → (r.wrong ≡ 0) × (check_of r.map ≡ Accepted)
-both_fine r e =
-    ⊎_elim (λ t. (eqb-true r.wrong 0 t.0, t.1)) (λ t. no_refusal 4 r.wrong t.1) (chosen (eqb r.wrong 0) (check_of r.map) (Refused 4 r.wrong) Accepted e)
+both_fine : (q : Result Map Refused) (m : Map) → read_on q (λ r. if_fine r (check_of r)) ≡ Ok m → (q ≡ Ok m) × (check_of m ≡ Ok tt)
+both_fine (Err r) m e = err_is_not_ok r m e
+both_fine (Ok n) m e = by (check_of n) refl e
+  where
+    by : (c : Result ⊤ Fault) → check_of n ≡ c → if_fine n c ≡ Ok m → (◌≡◌ {A = Result Map Refused} (Ok n) (Ok m)) × (check_of m ≡ Ok tt)
+    by (Ok _) f e = (e, ap check_of (sym (same_map n m e)) ∙ f)
+    by (Err x) f e = err_is_not_ok (record { fault = x; map = n }) m e
 
-pub accepted_text : (s : List ℕ) → (load_of s).checked ≡ Accepted → (rs : List Range) × Fits s rs × (ranges_of (load_of s).map ≡ rs)
+pub accepted_text : (s : List ℕ) (m : Map) → load_of s ≡ Ok m → Fits s (ranges_of m)
 unfolding load_of empty_map
-accepted_text s e =
-    let b = both_fine (read_of s) e in
-    let m = (read_of s).map in
-    let h = text_is_spelled s b.0 in
+accepted_text s m e =
+    let b = both_fine (read_of s) m e in
+    let h = text_is_spelled s m b.0 in
     let same : ranges_of m ≡ h.more = h.holds in
     let long : length (ranges_of m) ≡ min m.count (length m.ranges) = length-take m.count m.ranges in
-    let few = text_few s in
-    let as_long : length (ranges_of m) ≡ length h.more = ap length same in (
-      h.more,
-      record { spelled = h.spelled; few = omega arith; in_range = h.in_range; in_one = subst InOne same (accepted_each m b.1) },
-      same,
-    )
+    let few = text_few s m b.0 in
+    record {
+      spelled = h.spelled ∙ ap spell_ranges (sym same);
+      few = omega arith;
+      in_range = subst AllIn (sym same) h.in_range;
+      in_one = accepted_each m b.1;
+    }
 
-pub text_accepted : (s : List ℕ) (rs : List Range) → Fits s rs → ((load_of s).checked ≡ Accepted) × (ranges_of (load_of s).map ≡ rs)
+pub text_accepted : (s : List ℕ) (rs : List Range) → Fits s rs → (m : Map) × (load_of s ≡ Ok m) × (ranges_of m ≡ rs)
 unfolding load_of
 text_accepted s rs f =
     let t = spelled_is_text s rs f.spelled f.few f.in_range in
-    let m = (read_of s).map in
-    let sound : wrong_of m ≡ 0 = wrong_clear m (ap (wrong_from 1) t.1 ∙ all_sound 1 rs f.in_range) (text_few s) in
-    (simp (eq-eqb (read_of s).wrong 0 t.0) (each_accepted m sound (subst InOne (sym t.1) f.in_one)), t.1)
+    let m = t.0 in
+    let sound : wrong_of m ≡ None = wrong_clear m (ap (wrong_from 1) t.2 ∙ all_sound 1 rs f.in_range) (text_few s m t.1) in
+    let fine : check_of m ≡ Ok tt = each_accepted m sound (subst InOne (sym t.2) f.in_one) in
+    (m, ap (λ (q : Result Map Refused). read_on q (λ r. if_fine r (check_of r))) t.1 ∙ ap (if_fine m) fine, t.2)

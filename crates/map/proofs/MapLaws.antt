@@ -1,16 +1,16 @@
 -- Laws: `lowest` gives the lowest address that has a property; a map is accepted exactly if each address lies in one of its ranges, and the lookup
 -- gives that range's unit.
 -- Assumes nothing.
-use Rattle.std.specs.Prelude.{Bool, true, false, cond, List, [], ◌∷◌, ◌⊎◌, ◌≡◌, refl, ℕ, zero, suc, ◌+◌, ◌≤◌, ◌<◌, min, ltb, eqb, length, take, drop, get_or}
-use Rattle.std.proofs.Common.{inl, inr, ⊎_elim, sym, ◌∙◌, add-one, arith, length-take, drop_of_length-le, drop-cons, get_or-take}
+use Rattle.std.specs.Prelude.{Bool, true, false, cond, List, [], ◌∷◌, ◌⊎◌, ◌≡◌, refl, ℕ, zero, suc, ◌+◌, ◌≤◌, ◌<◌, ltb, length, drop, get_or, Option, None, Some, Ok, Err}
+use Rattle.std.proofs.Common.{inl, inr, ⊎_elim, sym, ◌∙◌, add-one, arith, drop_of_length-le, drop-cons}
 use Rattle.std.proofs.Math.Path.{ap}
-use borrow.Author.Tests.{lt-ltb, le-ltb, eq-eqb, ne_eqb, ltb-false, eqb-false}
-use Rattle.lines.specs.NumberLaws.{below_or_not, chosen}
-use Rattle.map.specs.declared.Unit.TheVariants.{Nobody}
+use borrow.Author.Tests.{lt-ltb, le-ltb, ltb-false}
+use Rattle.lines.specs.NumberLaws.{below_or_not}
+use Rattle.std.proofs.lemmas.Option.{none-some}
 use Rattle.map.specs.declared.Range.{Range}
 use Rattle.map.specs.declared.Map.{Map}
-use Rattle.map.specs.declared.Checked.TheVariants.{Accepted, Refused}
-use Rattle.map.specs.Map.{addresses, check_of, check_ranges, in_none, in_two, lies, lowest, lowest_from, or_too_many, range_sound, ranges_of, unit_at, wrong_from, wrong_of}
+use Rattle.map.specs.declared.Fault.TheVariants.{Line, InTwo, InNone}
+use Rattle.map.specs.Map.{addresses, check_of, check_ranges, in_none, in_two, lies, lowest, lowest_from, or_too_many, range_sound, ranges_of, unit_at, unless_wrong, wrong_from, wrong_of}
 use Rattle.map.specs.Meaning.{LeastFrom, Least}
 
 -- ## The lowest address
@@ -64,15 +64,12 @@ lowest_same p q same =
 
 -- ## Ranges one at a time
 
--- the ranges of a map from a place on
-pub ranges_on : (l : List Range) (n i : ℕ) (d : Range) → i < n → i < length l → drop i (take n l) ≡ get_or l i d ∷ drop (i + 1) (take n l)
-ranges_on l n i d h k =
-    drop-cons (take n l) i d (let e : length (take n l) ≡ min n (length l) = length-take n l in omega arith)
-    ∙ ap (λ (x : Range). x ∷ drop (suc i) (take n l)) (get_or-take n l i d h)
-    ∙ ap (λ (m : ℕ). get_or l i d ∷ drop m (take n l)) (sym (add-one i))
+-- the ranges from a place on
+pub line_at : (l : List Range) (i : ℕ) (d : Range) → i < length l → drop i l ≡ get_or l i d ∷ drop (i + 1) l
+line_at l i d h = drop-cons l i d h ∙ ap (λ (m : ℕ). get_or l i d ∷ drop m l) (sym (add-one i))
 
-pub ranges_end : (l : List Range) (n i : ℕ) → (n ≤ i) ⊎ (length l ≤ i) → drop i (take n l) ≡ []
-ranges_end l n i h = drop_of_length-le (take n l) {i = i} (let e : length (take n l) ≡ min n (length l) = length-take n l in ⊎_elim (λ k. omega arith) (λ k. omega arith) h)
+pub line_end : (l : List Range) (i : ℕ) → length l ≤ i → drop i l ≡ []
+line_end l i h = drop_of_length-le l {i = i} h
 
 pub unit_here : (r : Range) (rs l : List Range) (a : ℕ) → l ≡ r ∷ rs → lies a r ≡ true → unit_at l a ≡ r.unit
 unfolding unit_at
@@ -82,11 +79,11 @@ pub unit_on : (r : Range) (rs l : List Range) (a : ℕ) → l ≡ r ∷ rs → l
 unfolding unit_at
 unit_on r rs l a e h = ap (λ (x : List Range). unit_at x a) e ∙ simp h
 
-pub unit_none : (l : List Range) (a : ℕ) → l ≡ [] → unit_at l a ≡ Nobody
+pub unit_none : (l : List Range) (a : ℕ) → l ≡ [] → unit_at l a ≡ None
 unfolding unit_at
 unit_none l a e = ap (λ (x : List Range). unit_at x a) e
 
-pub wrong_here : (n : ℕ) (r : Range) (rs l : List Range) → l ≡ r ∷ rs → range_sound r ≡ false → wrong_from n l ≡ n
+pub wrong_here : (n : ℕ) (r : Range) (rs l : List Range) → l ≡ r ∷ rs → range_sound r ≡ false → wrong_from n l ≡ Some n
 unfolding wrong_from
 wrong_here n r rs l e h = ap (wrong_from n) e ∙ simp h
 
@@ -94,50 +91,51 @@ pub wrong_on : (n : ℕ) (r : Range) (rs l : List Range) → l ≡ r ∷ rs → 
 unfolding wrong_from
 wrong_on n r rs l e h = ap (wrong_from n) e ∙ simp h
 
-pub wrong_none : (n : ℕ) (l : List Range) → l ≡ [] → wrong_from n l ≡ 0
+pub wrong_none : (n : ℕ) (l : List Range) → l ≡ [] → wrong_from n l ≡ None
 unfolding wrong_from
 wrong_none n l e = ap (wrong_from n) e
 
 -- the first line that is none, where the ranges show one or none
-pub wrong_some : (m : Map) (n : ℕ) → wrong_from 1 (ranges_of m) ≡ suc n → wrong_of m ≡ suc n
+pub wrong_some : (m : Map) (n : ℕ) → wrong_from 1 (ranges_of m) ≡ Some n → wrong_of m ≡ Some n
 unfolding wrong_of
-wrong_some m n e = ap (or_too_many m.count) e ∙ simp (ne_eqb (suc n) 0 (λ z. omega arith))
+wrong_some m n e = ap (or_too_many m.count) e
 
-pub wrong_many : (m : Map) → wrong_from 1 (ranges_of m) ≡ 0 → 64 < m.count → wrong_of m ≡ 65
+pub wrong_many : (m : Map) → wrong_from 1 (ranges_of m) ≡ None → 64 < m.count → wrong_of m ≡ Some 65
 unfolding wrong_of
 wrong_many m e h = ap (or_too_many m.count) e ∙ simp (lt-ltb 64 m.count h)
 
-pub wrong_clear : (m : Map) → wrong_from 1 (ranges_of m) ≡ 0 → m.count ≤ 64 → wrong_of m ≡ 0
+pub wrong_clear : (m : Map) → wrong_from 1 (ranges_of m) ≡ None → m.count ≤ 64 → wrong_of m ≡ None
 unfolding wrong_of
 wrong_clear m e h = ap (or_too_many m.count) e ∙ simp (le-ltb 64 m.count h)
 
-pub wrong_few : (m : Map) → wrong_of m ≡ 0 → m.count ≤ 64
+pub wrong_few : (m : Map) → wrong_of m ≡ None → m.count ≤ 64
 unfolding wrong_of
-wrong_few m e =
-    ⊎_elim
-    (λ t. ⊎_elim (λ u. absurd (omega (arith, u.1))) (λ u. ltb-false 64 m.count u.0) (chosen (ltb 64 m.count) 65 0 0 t.1))
-    (λ t. absurd (eqb-false (wrong_from 1 (ranges_of m)) 0 t.0 t.1))
-    (chosen (eqb (wrong_from 1 (ranges_of m)) 0) (cond (ltb 64 m.count) 65 0) (wrong_from 1 (ranges_of m)) 0 e)
+wrong_few m e = by (wrong_from 1 (ranges_of m)) (ltb 64 m.count) refl e
+  where
+    by : (o : Option ℕ) (t : Bool) → ltb 64 m.count ≡ t → (elim o as (λ x. Option ℕ) [ None ↦ cond t (Some 65) None | Some n ↦ Some n ]) ≡ None → m.count ≤ 64
+    by None true f e = absurd (none-some 65 (sym e))
+    by None false f e = ltb-false 64 m.count f
+    by (Some n) t f e = absurd (none-some n (sym e))
 
 -- ## A check, by what was found
 
-pub check_wrong : (m : Map) (n : ℕ) → n ≡ wrong_of m → (n ≡ 0 → ⊥) → Refused 4 n ≡ check_of m
+pub check_wrong : (m : Map) (n : ℕ) → wrong_of m ≡ Some n → Err (Line n) ≡ check_of m
 unfolding check_of
-check_wrong m n e h = ap (Refused 4) e ∙ simp (ne_eqb (wrong_of m) 0 (λ z. h (e ∙ z)))
+check_wrong m n e = sym (ap (λ (o : Option ℕ). unless_wrong o (check_ranges (ranges_of m))) e)
 
-pub check_ranges_lem : (m : Map) → wrong_of m ≡ 0 → check_ranges (ranges_of m) ≡ check_of m
+pub check_ranges_lem : (m : Map) → wrong_of m ≡ None → check_ranges (ranges_of m) ≡ check_of m
 unfolding check_of
-check_ranges_lem m e = simp (eq-eqb (wrong_of m) 0 e)
+check_ranges_lem m e = sym (ap (λ (o : Option ℕ). unless_wrong o (check_ranges (ranges_of m))) e)
 
 module _ (rs : List Range) (t : ℕ) (t-is : t ≡ lowest (in_two rs)) where
-  pub check_two : t < addresses → Refused 19 t ≡ check_ranges rs
+  pub check_two : t < addresses → Err (InTwo t) ≡ check_ranges rs
   unfolding check_ranges
-  check_two h = ap (Refused 19) t-is ∙ simp (lt-ltb (lowest (in_two rs)) addresses (omega arith))
+  check_two h = ap (λ (a : ℕ). Err (InTwo a)) t-is ∙ simp (lt-ltb (lowest (in_two rs)) addresses (omega arith))
 
-  pub check_none : (n : ℕ) → addresses ≤ t → n ≡ lowest (in_none rs) → n < addresses → Refused 20 n ≡ check_ranges rs
+  pub check_none : (n : ℕ) → addresses ≤ t → n ≡ lowest (in_none rs) → n < addresses → Err (InNone n) ≡ check_ranges rs
   unfolding check_ranges
-  check_none n h e k = ap (Refused 20) e ∙ simp (le-ltb (lowest (in_two rs)) addresses (omega arith), lt-ltb (lowest (in_none rs)) addresses (omega arith))
+  check_none n h e k = ap (λ (a : ℕ). Err (InNone a)) e ∙ simp (le-ltb (lowest (in_two rs)) addresses (omega arith), lt-ltb (lowest (in_none rs)) addresses (omega arith))
 
-  pub check_fine : (n : ℕ) → addresses ≤ t → n ≡ lowest (in_none rs) → addresses ≤ n → Accepted ≡ check_ranges rs
+  pub check_fine : (n : ℕ) → addresses ≤ t → n ≡ lowest (in_none rs) → addresses ≤ n → Ok tt ≡ check_ranges rs
   unfolding check_ranges
   check_fine n h e k = simp (le-ltb (lowest (in_two rs)) addresses (omega arith), le-ltb (lowest (in_none rs)) addresses (omega arith))

@@ -1,26 +1,26 @@
 -- Laws: the first 780 bytes of a text decide what is read of it (`cut_is_same`): 64 lines of 12 bytes, and a 65th.
 -- Assumes nothing.
-use Rattle.std.specs.Prelude.{Bool, true, false, cond, List, [], ◌∷◌, ◌≡◌, refl, ℕ, zero, suc, ◌+◌, ◌-◌, ◌*◌, ◌≤◌, ◌<◌, min, leb, eqb, length, take, drop}
-use Rattle.std.proofs.Common.{⊎_elim, sym, ◌∙◌, arith, take_all, take-take, length-take-le, le-leb, ne_eqb, eqb-true}
+use Rattle.std.specs.Prelude.{Bool, true, false, cond, List, [], ◌∷◌, ◌≡◌, refl, ℕ, zero, suc, ◌+◌, ◌-◌, ◌*◌, ◌≤◌, ◌<◌, min, leb, eqb, length, take, drop, Result, Ok, Err}
+use Rattle.std.proofs.Common.{⊎_elim, sym, ◌∙◌, arith, take_all, take-take, length-take-le, le-leb, ne_eqb}
 use Rattle.std.proofs.Math.Path.{ap}
 use Rattle.std.proofs.Math.Nat.{sub-zero}
 use Rattle.lines.specs.Lines.{lines_in, line_length}
 use Rattle.lines.specs.LineLaws.{line_within, line_next}
 use Rattle.lines.specs.NumberLaws.{below_or_not}
 use Rattle.map.specs.declared.Map.{Map}
-use Rattle.map.specs.declared.reading.Read.{Read}
-use Rattle.map.specs.Reading.{empty_map, wrong_next, with_line, range_of, read_from, read_of}
+use Rattle.map.specs.declared.reading.Refused.{Refused}
+use Rattle.map.specs.Reading.{empty_map, wrong_next, with_line, range_of, read_on, read_from, read_of}
 use Rattle.map.specs.TextLaws.{line_taken}
 
-full_line : (m : Map) (l : List ℕ) → 64 ≤ m.count → with_line m l ≡ wrong_next m
+full_line : (m : Map) (l : List ℕ) → 64 ≤ m.count → with_line m l ≡ Err (wrong_next m)
 unfolding with_line
 full_line m l h = simp (le-leb 64 m.count h)
 
-other_line : (m : Map) (l : List ℕ) → (length l ≡ 11 → ⊥) → with_line m l ≡ wrong_next m
+other_line : (m : Map) (l : List ℕ) → (length l ≡ 11 → ⊥) → with_line m l ≡ Err (wrong_next m)
 unfolding with_line range_of
 other_line m l h = simp (ne_eqb (length l) 11 h) (same (leb 64 m.count))
   where
-    same : (t : Bool) → cond t (wrong_next m) (wrong_next m) ≡ wrong_next m
+    same : (t : Bool) → ◌≡◌ {A = Result Map Refused} (cond t (Err (wrong_next m)) (Err (wrong_next m))) (Err (wrong_next m))
     same true = refl
     same false = refl
 
@@ -39,22 +39,22 @@ module _ (m : Map) (s : List ℕ) (some : 0 < length s) where
       line_next true s 0 (line_length s) some e (line_within s 0 (line_length s) some e) refl
       ∙ ap (λ (n : ℕ). take n s ∷ lines_in true rest) (sub-zero (line_length s))
 
-  read_first : read_from m (lines_in true s) ≡ cond (eqb (with_line m line).wrong 0) (read_from (with_line m line).map (lines_in true rest)) (with_line m line)
+  read_first : read_from m (lines_in true s) ≡ read_on (with_line m line) (λ n. read_from n (lines_in true rest))
   unfolding read_from
   read_first = ap (read_from m) first_line
 
   line_long : length line ≡ line_length s
   line_long = length-take-le (line_length s) s (line_within s 0 (line_length s) some (let e : line_length s ≡ 0 + line_length s = omega arith in e))
 
-  stops : with_line m line ≡ wrong_next m → read_from m (lines_in true s) ≡ wrong_next m
-  stops e = read_first ∙ ap (λ (r : Read). cond (eqb r.wrong 0) (read_from r.map (lines_in true rest)) r) e ∙ simp (ne_eqb (m.count + 1) 0 (λ z. omega arith))
+  stops : with_line m line ≡ Err (wrong_next m) → read_from m (lines_in true s) ≡ Err (wrong_next m)
+  stops e = read_first ∙ ap (λ (q : Result Map Refused). read_on q (λ n. read_from n (lines_in true rest))) e
 
   -- a 65th line
-  read_full : 64 ≤ m.count → read_from m (lines_in true s) ≡ wrong_next m
+  read_full : 64 ≤ m.count → read_from m (lines_in true s) ≡ Err (wrong_next m)
   read_full h = stops (full_line m line h)
 
   -- a line that is too short or too long
-  read_other : (line_length s ≡ 11 → ⊥) → read_from m (lines_in true s) ≡ wrong_next m
+  read_other : (line_length s ≡ 11 → ⊥) → read_from m (lines_in true s) ≡ Err (wrong_next m)
   read_other h = stops (other_line m line (λ e. h (sym line_long ∙ e)))
 
 -- ## A text that is cut
@@ -79,8 +79,8 @@ abbrev Enough : ℕ → Type 0
 Enough k = (n : ℕ) (m : Map) (s : List ℕ) → 64 ≤ m.count + k → 12 * k + 12 ≤ n → read_from m (lines_in true (take n s)) ≡ read_from m (lines_in true s)
 
 -- what the first line and the rest give
-abbrev first_then : Map → List ℕ → List ℕ → Read
-first_then m l r = cond (eqb (with_line m l).wrong 0) (read_from (with_line m l).map (lines_in true r)) (with_line m l)
+abbrev first_then : Map → List ℕ → List ℕ → Result Map Refused
+first_then m l r = read_on (with_line m l) (λ n. read_from n (lines_in true r))
 
 module _ (n : ℕ) (m : Map) (s : List ℕ) (long : n < length s) (room : 12 ≤ n) where
   cut_some : 0 < length (take n s)
@@ -112,16 +112,15 @@ module _ (n : ℕ) (m : Map) (s : List ℕ) (long : n < length s) (room : 12 ≤
         ∙ ap (first_then m (take 11 s)) (drop_cut 12 (n - 12) s)
 
     both_first : (k : ℕ) → Enough k → 64 ≤ m.count + suc k → 12 * suc k + 12 ≤ n → read_from m (lines_in true (take n s)) ≡ read_from m (lines_in true s)
-    both_first k more h g = first_cut ∙ by (eqb (with_line m (take 11 s)).wrong 0) refl ∙ sym first_whole
+    both_first k more h g = first_cut ∙ by (with_line m (take 11 s)) refl ∙ sym first_whole
       where
-        by : (t : Bool) → eqb (with_line m (take 11 s)).wrong 0 ≡ t
-            → cond t (read_from (with_line m (take 11 s)).map (lines_in true (take (n - 12) (drop 12 s)))) (with_line m (take 11 s))
-            ≡ cond t (read_from (with_line m (take 11 s)).map (lines_in true (drop 12 s))) (with_line m (take 11 s))
-        by true e =
-            let t = line_taken m (take 11 s) (eqb-true (with_line m (take 11 s)).wrong 0 e) in
-            let c : (with_line m (take 11 s)).map.count ≡ m.count + 1 = ap (λ (x : Map). x.count) t.next_is in
-            more (n - 12) (with_line m (take 11 s)).map (drop 12 s) (omega arith) (omega arith)
-        by false e = refl
+        by : (q : Result Map Refused) → with_line m (take 11 s) ≡ q
+            → read_on q (λ x. read_from x (lines_in true (take (n - 12) (drop 12 s)))) ≡ read_on q (λ x. read_from x (lines_in true (drop 12 s)))
+        by (Ok x) e =
+            let t = line_taken m (take 11 s) x e in
+            let c : x.count ≡ m.count + 1 = ap (λ (y : Map). y.count) t.next_is in
+            more (n - 12) x (drop 12 s) (omega arith) (omega arith)
+        by (Err r) e = refl
 
 -- of a text that is longer
 longer : (k : ℕ) → Enough k → (n : ℕ) (m : Map) (s : List ℕ) → n < length s → 64 ≤ m.count + suc k → 12 * suc k + 12 ≤ n → read_from m (lines_in true (take n s)) ≡ read_from m (lines_in true s)

@@ -1,20 +1,19 @@
 -- Definitions: an address map, what is refused of it, and its lookup (document 02, (n)).
-use Rattle.std.specs.Prelude.{Bool, true, cond, ◌&&◌, List, [], ◌∷◌, ℕ, zero, suc, ◌+◌, leb, ltb, eqb, take}
-use Rattle.map.specs.declared.Unit.{Unit}
-use Rattle.map.specs.declared.Unit.TheVariants.{Nobody, Number}
+use Rattle.std.specs.Prelude.{Bool, true, cond, ◌&&◌, ⊤, List, [], ◌∷◌, Option, None, Some, Result, Ok, Err, ℕ, zero, suc, ◌+◌, leb, ltb, eqb, take}
+use Rattle.std.specs.Result.{result_and}
+use Rattle.refusals.specs.declared.Refusal.{Refusal}
+use Rattle.refusals.specs.declared.Refusal.TheVariants.{Malformed, Overlap, Gap}
 use Rattle.map.specs.declared.Range.{Range}
 use Rattle.map.specs.declared.Map.{Map}
-use Rattle.map.specs.declared.Checked.{Checked}
-use Rattle.map.specs.declared.Checked.TheVariants.{Accepted, Refused}
-use Rattle.map.specs.declared.Found.{Found}
-use Rattle.map.specs.declared.Found.TheVariants as found
+use Rattle.map.specs.declared.Fault.{Fault}
+use Rattle.map.specs.declared.Fault.TheVariants.{Line, InTwo, InNone}
 
 -- ## Ranges
 
 -- "unit 0 to 3 or `-` for none"
-abbrev pub unit_sound : Unit → Bool
-unit_sound Nobody = true
-unit_sound (Number n) = ltb n 4
+abbrev pub unit_sound : Option ℕ → Bool
+unit_sound None = true
+unit_sound (Some n) = ltb n 4
 
 -- "a last address below its first" is no range
 unfoldable pub range_sound : Range → Bool
@@ -44,8 +43,8 @@ holders_of [] a = 0
 holders_of (r ∷ rs) a = cond (lies a r) 1 0 + holders_of rs a
 
 -- the unit of the range that an address lies in
-unfoldable pub unit_at : List Range → ℕ → Unit
-unit_at [] a = Nobody
+unfoldable pub unit_at : List Range → ℕ → Option ℕ
+unit_at [] a = None
 unit_at (r ∷ rs) a = cond (lies a r) r.unit (unit_at rs a)
 
 -- the lowest of so many addresses, from one on, that has a property; the one after them where there is none
@@ -67,35 +66,48 @@ in_none rs a = eqb (holders_of rs a) 0
 
 -- ## A check
 
--- the number of the first of some ranges that is none, where the first of them has that number; 0 for none
-unfoldable pub wrong_from : ℕ → List Range → ℕ
-wrong_from n [] = 0
-wrong_from n (r ∷ rs) = cond (range_sound r) (wrong_from (suc n) rs) n
+-- the number of the first of some ranges that is none, where the first of them has that number
+unfoldable pub wrong_from : ℕ → List Range → Option ℕ
+wrong_from n [] = None
+wrong_from n (r ∷ rs) = cond (range_sound r) (wrong_from (suc n) rs) (Some n)
 
 -- "a 65th line"
-abbrev pub or_too_many : ℕ → ℕ → ℕ
-or_too_many count n = cond (eqb n 0) (cond (ltb 64 count) 65 0) n
+abbrev pub or_too_many : ℕ → Option ℕ → Option ℕ
+or_too_many count None = cond (ltb 64 count) (Some 65) None
+or_too_many count (Some n) = Some n
 
--- the number, from 1, of the first line that is none; 0 where there is none
-unfoldable pub wrong_of : Map → ℕ
+-- the number, from 1, of the first line that is none
+unfoldable pub wrong_of : Map → Option ℕ
 wrong_of m = or_too_many m.count (wrong_from 1 (ranges_of m))
 
 -- "19 when some address lies in two lines; after it, 20 when some address lies in none .. each with the lowest such address"
-unfoldable pub check_ranges : List Range → Checked
+unfoldable pub check_ranges : List Range → Result ⊤ Fault
 check_ranges rs =
-    cond (ltb (lowest (in_two rs)) addresses) (Refused 19 (lowest (in_two rs)))
-    (cond (ltb (lowest (in_none rs)) addresses) (Refused 20 (lowest (in_none rs))) Accepted)
+    cond (ltb (lowest (in_two rs)) addresses) (Err (InTwo (lowest (in_two rs))))
+    (cond (ltb (lowest (in_none rs)) addresses) (Err (InNone (lowest (in_none rs)))) (Ok tt))
 
 -- "4 before the numbers here", with the line
-unfoldable pub check_of : Map → Checked
-check_of m = cond (eqb (wrong_of m) 0) (check_ranges (ranges_of m)) (Refused 4 (wrong_of m))
+abbrev pub unless_wrong : Option ℕ → Result ⊤ Fault → Result ⊤ Fault
+unless_wrong None r = r
+unless_wrong (Some n) r = Err (Line n)
+
+unfoldable pub check_of : Map → Result ⊤ Fault
+check_of m = unless_wrong (wrong_of m) (check_ranges (ranges_of m))
+
+-- 4, 19 and 20
+abbrev pub fault_refusal : Fault → Refusal
+fault_refusal (Line n) = Malformed
+fault_refusal (InTwo a) = Overlap
+fault_refusal (InNone a) = Gap
+
+-- the line, or "the lowest such address"
+abbrev pub fault_place : Fault → ℕ
+fault_place (Line n) = n
+fault_place (InTwo a) = a
+fault_place (InNone a) = a
 
 -- ## A lookup
 
-abbrev pub if_accepted : Checked → Unit → Found
-if_accepted Accepted u = found.At u
-if_accepted (Refused n at) u = found.Refused n at
-
 -- "Accepted, each address .. has one line and the lookup gives its unit"
-unfoldable pub lookup_of : Map → ℕ → Found
-lookup_of m a = if_accepted (check_of m) (unit_at (ranges_of m) a)
+unfoldable pub lookup_of : Map → ℕ → Result (Option ℕ) Fault
+lookup_of m a = result_and (check_of m) (Ok (unit_at (ranges_of m) a))

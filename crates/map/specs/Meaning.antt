@@ -1,9 +1,9 @@
 -- Definitions: what the laws say of an address map (document 02, (n)): which map is accepted, what 19 and 20 carry, which text is accepted.
-use Rattle.std.specs.Prelude.{Bool, true, false, List, [], ◌∷◌, ◌⊎◌, ◌≡◌, ℕ, ◌+◌, ◌≤◌, ◌<◌, length}
+use Rattle.std.specs.Prelude.{Bool, true, false, ⊤, List, [], ◌∷◌, ◌≡◌, Result, Ok, Err, ℕ, ◌+◌, ◌≤◌, ◌<◌, length}
 use Rattle.lines.specs.Lines.{lines_in}
 use Rattle.map.specs.declared.Range.{Range}
-use Rattle.map.specs.declared.Checked.{Checked}
-use Rattle.map.specs.declared.Checked.TheVariants.{Accepted, Refused}
+use Rattle.map.specs.declared.Fault.{Fault}
+use Rattle.map.specs.declared.Fault.TheVariants.{Line, InTwo, InNone}
 use Rattle.map.specs.Map.{addresses, holders_of}
 use Rattle.map.specs.Format.{InRange, spell_ranges}
 
@@ -40,9 +40,11 @@ pub record NoneAt (rs : List Range) (a : ℕ) : Type 0 where
   pub none_in_two : (b : ℕ) → b < addresses → holders_of rs b ≤ 1
 
 -- what a check of sound ranges says: "19 when some address lies in two lines; after it, 20 when some address lies in none"
-abbrev pub Means : List Range → Checked → Type 0
-Means rs Accepted = InOne rs
-Means rs (Refused n a) = ((n ≡ 19) × TwoAt rs a) ⊎ ((n ≡ 20) × NoneAt rs a)
+abbrev pub Means : List Range → Result ⊤ Fault → Type 0
+Means rs (Ok _) = InOne rs
+Means rs (Err (InTwo a)) = TwoAt rs a
+Means rs (Err (InNone a)) = NoneAt rs a
+Means rs (Err (Line n)) = ⊥
 
 -- ## A text
 

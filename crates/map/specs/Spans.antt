@@ -1,10 +1,7 @@
 -- Definitions: what the functions of a check promise each other. First and last addresses stand in two lists, side by side.
-use Rattle.std.specs.Prelude.{Bool, cond, ◌&&◌, List, [], ◌∷◌, ◌≡◌, ℕ, ◌+◌, ltb, eqb, length}
+use Rattle.std.specs.Prelude.{Bool, cond, ◌&&◌, List, [], ◌∷◌, ◌≡◌, ℕ, ◌+◌, ltb, eqb}
 use Rattle.map.specs.declared.Range.{Range}
 use Rattle.map.specs.Map.{between, holders_of}
-
-abbrev pub Sized : List ℕ → List ℕ → Type 0
-Sized fs ls = (length fs ≡ 64) × (length ls ≡ 64)
 
 -- how many of the ranges an address lies in
 unfoldable pub held_in : List ℕ → List ℕ → ℕ → ℕ

@@ -1,21 +1,19 @@
 -- Laws: a text read line by line, and what its map holds: the ranges that its lines spell (`text_is_spelled`, `spelled_is_text`).
 -- Assumes nothing.
-use Rattle.std.specs.Prelude.{Bool, true, false, cond, List, [], ◌∷◌, ◌++◌, ◌≡◌, refl, ℕ, ◌+◌, ◌-◌, ◌≤◌, ◌<◌, min, leb, eqb, length, take, drop, set}
+use Rattle.std.specs.Prelude.{Bool, true, false, cond, List, [], ◌∷◌, ◌++◌, ◌≡◌, refl, ℕ, ◌+◌, ◌-◌, ◌≤◌, ◌<◌, min, leb, length, take, drop, set, Option, None, Some, Result, Ok, Err}
 use Rattle.std.proofs.Common.{append_assoc, append-nil, sym, ◌∙◌, subst, add-one, arith, length-set, take-suc-set}
 use Rattle.std.proofs.Math.Path.{ap}
 use Rattle.std.proofs.lemmas.List.{length-replicate}
-use borrow.Author.Tests.{leb-false, lt-leb, eqb-true, eqb-false, eq-eqb, ne_eqb}
+use borrow.Author.Tests.{leb-false, lt-leb}
 use Rattle.lines.specs.Lines.{lines_in, line_length}
 use Rattle.lines.specs.LineLaws.{line_within, line_next, lines_end}
 use Rattle.map.specs.declared.Range.{Range}
 use Rattle.map.specs.declared.Map.{Map}
-use Rattle.map.specs.declared.reading.MaybeRange.{MaybeRange}
-use Rattle.map.specs.declared.reading.MaybeRange.TheVariants.{NoRange, IsRange}
-use Rattle.map.specs.declared.reading.Read.{Read}
+use Rattle.map.specs.declared.reading.Refused.{Refused}
 use Rattle.map.specs.Map.{ranges_of}
 use Rattle.map.specs.Meaning.{AllIn, none, and}
 use Rattle.map.specs.Format.{spell_range, spell_ranges, InRange}
-use Rattle.map.specs.Reading.{empty_map, no_range, added, wrong_next, with_range, with_line, range_of, read_from, read_of}
+use Rattle.map.specs.Reading.{empty_map, no_range, added, wrong_next, with_range, with_line, range_of, read_on, read_from, read_of}
 use Rattle.map.specs.ReadingLaws.{read_is_spelled, spelled_is_read}
 
 -- ## Line by line
@@ -24,7 +22,7 @@ pub empty_few : (m : Map) → m ≡ empty_map → m.count ≤ 64
 unfolding empty_map
 empty_few m e = let z : m.count ≡ 0 = ap (λ (x : Map). x.count) e in omega arith
 
-pub read_end : (m : Map) (s : List ℕ) (at : ℕ) → length s ≤ at → read_from m (lines_in true (drop at s)) ≡ record { wrong = 0; map = m }
+pub read_end : (m : Map) (s : List ℕ) (at : ℕ) → length s ≤ at → read_from m (lines_in true (drop at s)) ≡ Ok m
 unfolding read_from
 read_end m s at h = ap (read_from m) (lines_end true s at h)
 
@@ -34,35 +32,40 @@ module _ (m : Map) (s : List ℕ) (at end at' : ℕ) (some : at < length s) (end
       line_next true s at end some end_is (line_within s at end some end_is) refl
       ∙ ap (λ (x : ℕ). take (end - at) (drop at s) ∷ lines_in true (drop x s)) (sym at'-is)
 
-  pub read_stop : (r : Read) → r ≡ with_line m (take (end - at) (drop at s)) → (r.wrong ≡ 0 → ⊥) → read_from m (lines_in true (drop at s)) ≡ r
+  pub read_stop : (r : Refused) → Err r ≡ with_line m (take (end - at) (drop at s)) → read_from m (lines_in true (drop at s)) ≡ Err r
   unfolding read_from
-  read_stop r e h = ap (read_from m) lines_are ∙ simp (← e, ne_eqb r.wrong 0 h)
+  read_stop r e = ap (read_from m) lines_are ∙ simp (← e)
 
-  pub read_on_lem : (r : Read) → r ≡ with_line m (take (end - at) (drop at s)) → r.wrong ≡ 0 → read_from m (lines_in true (drop at s)) ≡ read_from r.map (lines_in true (drop at' s))
+  pub read_on_lem : (n : Map) → Ok n ≡ with_line m (take (end - at) (drop at s)) → read_from m (lines_in true (drop at s)) ≡ read_from n (lines_in true (drop at' s))
   unfolding read_from
-  read_on_lem r e h = ap (read_from m) lines_are ∙ simp (← e, eq-eqb r.wrong 0 h)
+  read_on_lem n e = ap (read_from m) lines_are ∙ simp (← e)
 
 -- what is known of a line that is read: the map was not full, and the line is a range's
 pub record Taken (m : Map) (l : List ℕ) (next : Map) : Type 0 where
   pub range : Range
   pub few : m.count < 64
-  pub is : range_of l ≡ IsRange range
+  pub is : range_of l ≡ Some range
   pub next_is : next ≡ added m range
 
-pub line_taken : (m : Map) (l : List ℕ) → (with_line m l).wrong ≡ 0 → Taken m l (with_line m l).map
-unfolding with_line
-line_taken m l e = by (leb 64 m.count) refl (range_of l) refl e
-  where
-    by : (t : Bool) → leb 64 m.count ≡ t → (q : MaybeRange) → range_of l ≡ q → (cond t (wrong_next m) (with_range m q)).wrong ≡ 0
-        → Taken m l (cond t (wrong_next m) (with_range m q)).map
-    by true f q g e = absurd (omega arith)
-    by false f NoRange g e = absurd (omega arith)
-    by false f (IsRange r) g e = record { range = r; few = leb-false 64 m.count f; is = g; next_is = refl }
+pub err_is_not_ok : {A : Type 0} (r : Refused) (n : Map) → Err r ≡ Ok n → A
+err_is_not_ok r n e = absurd (let z : ◌≡◌ {A = ℕ} 0 1 = cc in omega arith)
 
-pub line_few : (m : Map) (l : List ℕ) (r : Read) → r ≡ with_line m l → r.wrong ≡ 0 → r.map.count ≤ 64
-line_few m l r e h =
-    let t = line_taken m l (ap (λ (x : Read). x.wrong) (sym e) ∙ h) in
-    let c : r.map.count ≡ m.count + 1 = ap (λ (x : Read). x.map.count) e ∙ ap (λ (x : Map). x.count) t.next_is in
+pub same_map : (m n : Map) → ◌≡◌ {A = Result Map Refused} (Ok m) (Ok n) → m ≡ n
+same_map m n e = cc
+
+pub line_taken : (m : Map) (l : List ℕ) (n : Map) → with_line m l ≡ Ok n → Taken m l n
+unfolding with_line
+line_taken m l n e = by (leb 64 m.count) refl (range_of l) refl e
+  where
+    by : (t : Bool) → leb 64 m.count ≡ t → (q : Option Range) → range_of l ≡ q → cond t (Err (wrong_next m)) (with_range m q) ≡ Ok n → Taken m l n
+    by true f q g e = err_is_not_ok (wrong_next m) n e
+    by false f None g e = err_is_not_ok (wrong_next m) n e
+    by false f (Some r) g e = record { range = r; few = leb-false 64 m.count f; is = g; next_is = sym (same_map (added m r) n e) }
+
+pub line_few : (m : Map) (l : List ℕ) (n : Map) → with_line m l ≡ Ok n → n.count ≤ 64
+line_few m l n e =
+    let t = line_taken m l n e in
+    let c : n.count ≡ m.count + 1 = ap (λ (x : Map). x.count) t.next_is in
     let f = t.few in
     omega arith
 
@@ -85,25 +88,24 @@ added_ranges m r s h =
     ap (λ (n : ℕ). take n (set m.ranges m.count r)) (add-one m.count) ∙ take-suc-set m.ranges m.count r (omega (arith, s.long))
 
 -- what reading lines gives
-pub record Holds (m : Map) (ls : List (List ℕ)) (r : Read) : Type 0 where
+pub record Holds (m : Map) (ls : List (List ℕ)) (r : Map) : Type 0 where
   pub more : List Range
   pub spelled : ls ≡ spell_ranges more
   pub in_range : AllIn more
-  pub holds : ranges_of r.map ≡ ranges_of m ++ more
+  pub holds : ranges_of r ≡ ranges_of m ++ more
 
-told : (m : Map) (ls : List (List ℕ)) → Sized m → (read_from m ls).wrong ≡ 0 → Holds m ls (read_from m ls)
+told : (m : Map) (ls : List (List ℕ)) (r : Map) → Sized m → read_from m ls ≡ Ok r → Holds m ls r
 unfolding read_from spell_ranges
-told m [] s e = record { more = []; spelled = refl; in_range = none; holds = sym (append-nil (ranges_of m)) }
-told m (l ∷ ls) s e = by (eqb (with_line m l).wrong 0) refl e (told (with_line m l).map ls)
+told m [] r s e = subst (Holds m []) (same_map m r e) (record { more = []; spelled = refl; in_range = none; holds = sym (append-nil (ranges_of m)) })
+told m (l ∷ ls) r s e = by (with_line m l) refl e (λ n. told n ls r)
   where
-    by : (t : Bool) → eqb (with_line m l).wrong 0 ≡ t → (cond t (read_from (with_line m l).map ls) (with_line m l)).wrong ≡ 0
-        → (Sized (with_line m l).map → (read_from (with_line m l).map ls).wrong ≡ 0 → Holds (with_line m l).map ls (read_from (with_line m l).map ls))
-        → Holds m (l ∷ ls) (cond t (read_from (with_line m l).map ls) (with_line m l))
-    by false f e rest = absurd (eqb-false (with_line m l).wrong 0 f e)
-    by true f e rest =
-        let t = line_taken m l (eqb-true (with_line m l).wrong 0 f) in
+    by : (q : Result Map Refused) → with_line m l ≡ q → read_on q (λ n. read_from n ls) ≡ Ok r
+        → ((n : Map) → Sized n → read_from n ls ≡ Ok r → Holds n ls r) → Holds m (l ∷ ls) r
+    by (Err q) f e rest = err_is_not_ok q r e
+    by (Ok n) f e rest =
+        let t = line_taken m l n f in
         let q = read_is_spelled l t.range t.is in
-        let h = rest (subst Sized (sym t.next_is) (added_sized m t.range s t.few)) e in record {
+        let h = rest n (subst Sized (sym t.next_is) (added_sized m t.range s t.few)) e in record {
           more = t.range ∷ h.more;
           spelled = ap (λ (x : List ℕ). x ∷ ls) q.0 ∙ ap (λ (x : List (List ℕ)). spell_range t.range ∷ x) h.spelled;
           in_range = and q.1 h.in_range;
@@ -113,27 +115,31 @@ told m (l ∷ ls) s e = by (eqb (with_line m l).wrong 0) refl e (told (with_line
         }
 
 -- where a text is read, its lines spell ranges, at most 64, and the map holds them in their order
-pub text_is_spelled : (text : List ℕ) → (read_of text).wrong ≡ 0 → Holds empty_map (lines_in true text) (read_of text)
+pub text_is_spelled : (text : List ℕ) (r : Map) → read_of text ≡ Ok r → Holds empty_map (lines_in true text) r
 unfolding read_of
-text_is_spelled text e = told empty_map (lines_in true text) empty_sized e
+text_is_spelled text r e = told empty_map (lines_in true text) r empty_sized e
 
-line_text_lem : (m : Map) (r : Range) → m.count < 64 → InRange r → with_line m (spell_range r) ≡ record { wrong = 0; map = added m r }
+line_text_lem : (m : Map) (r : Range) → m.count < 64 → InRange r → with_line m (spell_range r) ≡ Ok (added m r)
 unfolding with_line
 line_text_lem m r h i = simp (lt-leb 64 m.count h, spelled_is_read r i)
 
 text : (m : Map) (rs : List Range) → Sized m → m.count + length rs ≤ 64 → AllIn rs
-    → ((read_from m (spell_ranges rs)).wrong ≡ 0) × (ranges_of (read_from m (spell_ranges rs)).map ≡ ranges_of m ++ rs)
+    → (r : Map) × (read_from m (spell_ranges rs) ≡ Ok r) × (ranges_of r ≡ ranges_of m ++ rs)
 unfolding read_from spell_ranges
-text m [] s h none = (refl, sym (append-nil (ranges_of m)))
+text m [] s h none = (m, refl, sym (append-nil (ranges_of m)))
 text m (r ∷ rs) s h (and i is) =
     let few : m.count < 64 = omega arith in
     let t = text (added m r) rs (added_sized m r s few) (omega arith) is in
     let e : read_from m (spell_ranges (r ∷ rs)) ≡ read_from (added m r) (spell_ranges rs) = simp (line_text_lem m r few i) in (
-      ap (λ (x : Read). x.wrong) e ∙ t.0,
-      ap (λ (x : Read). ranges_of x.map) e ∙ t.1 ∙ ap (λ (x : List Range). x ++ rs) (added_ranges m r s few) ∙ append_assoc (ranges_of m) (r ∷ []) rs,
+      t.0,
+      e ∙ t.1,
+      t.2 ∙ ap (λ (x : List Range). x ++ rs) (added_ranges m r s few) ∙ append_assoc (ranges_of m) (r ∷ []) rs,
     )
 
 -- a text whose lines spell at most 64 ranges is read, and the map holds them in their order
-pub spelled_is_text : (s : List ℕ) (rs : List Range) → lines_in true s ≡ spell_ranges rs → length rs ≤ 64 → AllIn rs → ((read_of s).wrong ≡ 0) × (ranges_of (read_of s).map ≡ rs)
+pub spelled_is_text : (s : List ℕ) (rs : List Range) → lines_in true s ≡ spell_ranges rs → length rs ≤ 64 → AllIn rs
+    → (r : Map) × (read_of s ≡ Ok r) × (ranges_of r ≡ rs)
 unfolding read_of empty_map
-spelled_is_text s rs e h i = subst (λ (ls : List (List ℕ)). ((read_from empty_map ls).wrong ≡ 0) × (ranges_of (read_from empty_map ls).map ≡ rs)) (sym e) (text empty_map rs empty_sized (omega arith) i)
+spelled_is_text s rs e h i =
+    let t = text empty_map rs empty_sized (omega arith) i in
+    (t.0, ap (read_from empty_map) e ∙ t.1, t.2)

@@ -2,91 +2,92 @@
 #![tactic(auto)]
 
 ghost use Rattle.std.specs.Prelude.{◌≡◌};
-ghost use Rattle.map.specs.Reading.{found_number, load_of, lookup_in, unit_number};
+ghost use Rattle.map.specs.Map.{fault_place, fault_refusal};
+ghost use Rattle.map.specs.Reading.{found_number, load_of, lookup_in};
+
+use refusals::Refusal;
+use std::error::Error;
+use std::fmt;
 
 pub mod checks;
 pub mod reading;
 
-use reading::load;
+use reading::{Refused, load};
 
-// The unit of a range: that of a number, or `-` for none.
-#[derive(Clone, Copy)]
-pub enum Unit {
-    Nobody,
-    Number(u8),
-}
-
-// A line of a map: the addresses from the first to the last, and their unit.
-#[derive(Clone, Copy)]
+// A line of a map: the addresses from the first to the last, and their unit, None for `-`.
+#[derive(Clone, Copy, Debug, PartialEq, Eq)]
 pub struct Range {
     pub first: u16,
     pub last: u16,
-    pub unit: Unit,
+    pub unit: Option<u8>,
 }
 
 // A map: as many of the ranges as it counts, in any order.
 #[derive(Clone, Copy)]
 pub struct Map {
+    // kept, a buffer with a count: it is handed in with any count, and one above 64 draws 4 at line 65 (document 02, (n)); no heap
     pub ranges: [Range; 64],
     pub count: usize,
 }
 
-// What a check of a map finds: nothing wrong; 4 with the number of the line, from 1; or 19 or 20 with the lowest such address.
-#[derive(Clone, Copy)]
-pub enum Checked {
-    Accepted,
-    Refused(u8, u16),
+// Why a map is refused: a line, by its number from 1, is none; or the lowest address that lies in two lines, or in none.
+#[derive(Clone, Copy, Debug, PartialEq, Eq, Drop)]
+pub enum Fault {
+    Line(u16),
+    InTwo(u16),
+    InNone(u16),
 }
 
-// What a lookup finds: the unit of an address, or why the map is refused.
-#[derive(Clone, Copy)]
-pub enum Found {
-    At(Unit),
-    Refused(u8, u16),
-}
-
-// The map of a text, and what a check of both finds.
-#[derive(Clone, Copy)]
-pub struct Loaded {
-    pub checked: Checked,
-    pub map: Map,
-}
-
-impl Loaded {
-    // The unit of an address, of a map that is accepted.
-    pub fn lookup(self, address: u16) -> Found
-        ensures { result ≡ lookup_in self address }
+impl Fault {
+    pub fn refusal(self) -> Refusal
+        ensures { result ≡ fault_refusal self }
     {
-        let checked = self.checked;
-        let map = self.map;
-        match checked {
-            Checked::Accepted => map.lookup(address),
-            Checked::Refused(refusal, at) => Found::Refused(refusal, at),
+        match self {
+            Fault::Line(_) => Refusal::Malformed,
+            Fault::InTwo(_) => Refusal::Overlap,
+            Fault::InNone(_) => Refusal::Gap,
+        }
+    }
+
+    // The line or the address.
+    pub fn place(self) -> u16
+        ensures { result ≡ fault_place self }
+    {
+        match self {
+            Fault::Line(at) | Fault::InTwo(at) | Fault::InNone(at) => at,
         }
     }
 }
 
-impl Unit {
-    // Its number, 4 for none.
-    fn number(self) -> u64
-        ensures { result ≡ unit_number self }
-    {
+impl Error for Fault {}
+
+impl fmt::Display for Fault {
+    fn fmt<W: fmt::Write>(&self, f: &mut fmt::Formatter<W>) -> fmt::Result {
         match self {
-            Unit::Nobody => 4,
-            Unit::Number(n) => n as u64,
+            Fault::Line(at) => write!(f, "4, line {at} is no line of a map, which has at most 64"),
+            Fault::InTwo(at) => write!(f, "19, address {at:04x} lies in two lines"),
+            Fault::InNone(at) => write!(f, "20, address {at:04x} lies in no line"),
         }
     }
 }
 
-impl Found {
-    // In one number: a unit, 4 for none, or 65536 times a refusal and its line or address.
-    pub fn number(self) -> u64
-        ensures { result ≡ found_number self }
-    {
-        match self {
-            Found::At(unit) => unit.number(),
-            Found::Refused(refusal, at) => refusal as u64 * 65536 + at as u64,
-        }
+// What a lookup finds, in one number: a unit, 4 for none, or 65536 times a refusal and its line or address.
+pub fn found_number(found: Result<Option<u8>, Fault>) -> u64
+    ensures { result ≡ found_number found }
+{
+    match found {
+        Ok(unit) => unit.map_or(4, u64::from),
+        Err(fault) => fault.refusal().number() as u64 * 65536 + fault.place() as u64,
+    }
+}
+
+// The unit of an address in the map of a text, where that is accepted.
+pub fn lookup_in(loaded: Result<Map, Refused>, address: u16) -> Result<Option<u8>, Fault>
+    ensures { result ≡ lookup_in loaded address }
+{
+    match loaded {
+        Ok(map) => map.lookup(address),
+        Err(refused) => Err(refused.fault),
     }
 }
 
@@ -95,7 +96,5 @@ impl Found {
 pub extern "C" fn map_unit(text: &[u8], address: u16) -> u64
     ensures { result ≡ found_number (lookup_in (load_of text.now) address) }
 {
-    let loaded = load(text);
-    let found = loaded.lookup(address);
-    found.number()
+    found_number(lookup_in(load(text), address))
 }

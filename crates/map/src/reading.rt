@@ -1,92 +1,60 @@
 // A text as the map that it means.
 ghost use Rattle.std.specs.Prelude.{◌≡◌, ◌≤◌};
-ghost use Rattle.map.specs.Reading.{address_of, empty_map, load_of, range_of, read_of, unit_of, with_line};
+ghost use Rattle.map.specs.Reading.{address_of, empty_map, load_of, range_of, read_of, unit_of, with_line, wrong_next};
 
-use super::{Checked, Loaded, Map, Range, Unit};
+use super::{Fault, Map, Range};
 use lines::ends::{line_end, past};
-use lines::reading::{MaybeUnits, digit};
+use lines::reading::digit;
 
+// Why a text is refused, and the map of its lines up to the first that is none.
 #[derive(Clone, Copy)]
-pub enum MaybeRange {
-    NoRange,
-    IsRange(Range),
-}
-
-// The map of the lines up to the first that is none, and the number of that one, from 1; 0 where each is one.
-#[derive(Clone, Copy)]
-pub struct Read {
-    pub wrong: u16,
+pub struct Refused {
+    pub fault: Fault,
     pub map: Map,
 }
 
 // An address of four hexadecimal digits.
-fn address(a: u8, b: u8, c: u8, d: u8) -> MaybeUnits
+pub fn address(a: u8, b: u8, c: u8, d: u8) -> Option<u16>
     ensures { result ≡ address_of a b c d }
 {
-    let p = digit(a);
-    let q = digit(b);
-    let s = digit(c);
-    let t = digit(d);
-    if 16 <= p {
-        return MaybeUnits::NoUnits;
-    }
-    if 16 <= q {
-        return MaybeUnits::NoUnits;
-    }
-    if 16 <= s {
-        return MaybeUnits::NoUnits;
-    }
-    if 16 <= t {
-        return MaybeUnits::NoUnits;
-    }
-    let high = p as u64 * 16 + q as u64;
-    MaybeUnits::Units((high * 16 + s as u64) * 16 + t as u64)
+    let high = digit(a, 16)? as u16 * 16 + digit(b, 16)? as u16;
+    Some((high * 16 + digit(c, 16)? as u16) * 16 + digit(d, 16)? as u16)
 }
 
+// The unit that a byte means: `-` is none; another byte may be no unit at all.
 #[tactic(auto, unfolding(crate::specs::Reading::unit_of))]
-fn unit(b: u8) -> Unit
+fn unit(b: u8) -> Option<Option<u8>>
     ensures { result ≡ unit_of b }
 {
-    let dash = b == b'-';
-    if dash {
-        Unit::Nobody
+    if b == b'-' {
+        Some(None)
     } else {
-        Unit::Number(digit(b))
+        Some(Some(digit(b, 4)?))
     }
 }
 
 // The range that a line means.
-pub fn parse(line: &[u8]) -> MaybeRange
+pub fn parse(line: &[u8]) -> Option<Range>
     ensures { result ≡ range_of line.now }
 {
-    if line.len() != 11 {
-        return MaybeRange::NoRange;
-    }
-    let parted = (line[4] == b'\t') & (line[9] == b'\t');
+    let &[a, b, c, d, tab, e, f, g, h, next_tab, u] = line else {
+        return None;
+    };
+    let parted = (tab == b'\t') & (next_tab == b'\t');
     if !parted {
-        return MaybeRange::NoRange;
+        return None;
     }
-    let MaybeUnits::Units(first) = address(line[0], line[1], line[2], line[3]) else {
-        return MaybeRange::NoRange;
-    };
-    let MaybeUnits::Units(last) = address(line[5], line[6], line[7], line[8]) else {
-        return MaybeRange::NoRange;
-    };
     let range = Range {
-        first: first as u16,
-        last: last as u16,
-        unit: unit(line[10]),
+        first: address(a, b, c, d)?,
+        last: address(e, f, g, h)?,
+        unit: unit(u)?,
     };
-    let sound = range.is_sound();
-    if sound {
-        MaybeRange::IsRange(range)
-    } else {
-        MaybeRange::NoRange
-    }
+    if range.is_sound() { Some(range) } else { None }
 }
 
 impl Map {
     // No range.
+    #[tactic(auto, unfolding(crate::specs::Reading::empty_map))]
     pub fn new() -> Map
         ensures { result ≡ empty_map }
     {
@@ -94,72 +62,65 @@ impl Map {
             ranges: [Range {
                 first: 0,
                 last: 0,
-                unit: Unit::Nobody,
+                unit: None,
             }; 64],
             count: 0,
         }
     }
 
+    // The next line is none.
+    fn wrong_next(self) -> Refused
+        requires { self.count ≤ 64 }
+        ensures { result ≡ wrong_next self }
+    {
+        Refused {
+            fault: Fault::Line(self.count as u16 + 1),
+            map: self,
+        }
+    }
+
     // With a further line.
-    fn with_line(mut self, line: &[u8]) -> Read
+    #[tactic(auto, unfolding(crate::specs::Reading::with_line))]
+    fn with_line(mut self, line: &[u8]) -> Result<Map, Refused>
         requires { self.count ≤ 64 }
         ensures { result ≡ with_line self line.now }
     {
         let at = self.count;
         if 64 <= at {
-            return Read {
-                wrong: 65,
-                map: self,
-            };
+            return Err(self.wrong_next());
         }
-        let MaybeRange::IsRange(range) = parse(line) else {
-            return Read {
-                wrong: at as u16 + 1,
-                map: self,
-            };
+        let Some(range) = parse(line) else {
+            return Err(self.wrong_next());
         };
         self.ranges[at] = range;
         self.count = at + 1;
-        Read {
-            wrong: 0,
-            map: self,
-        }
+        Ok(self)
     }
 }
 
 // The map of the lines of a text.
-fn read_lines(text: &[u8]) -> Read
+fn read_lines(text: &[u8]) -> Result<Map, Refused>
     ensures { result ≡ read_of text.now }
 {
     let mut map = Map::new();
     let mut at = 0usize;
+    // no `for`: a line's length says where the next begins
     while at < text.len() {
         let end = line_end(text, at);
-        let next = map.with_line(&text[at..end]);
-        if next.wrong != 0 {
-            return next;
-        }
-        map = next.map;
+        map = map.with_line(&text[at..end])?;
         at = past(end, text.len());
     }
-    Read { wrong: 0, map }
+    Ok(map)
 }
 
-// The map of a text, and whether it is accepted.
-pub fn load(text: &[u8]) -> Loaded
+// The map of a text, where it is accepted.
+#[tactic(auto, unfolding(crate::specs::Reading::load_of))]
+pub fn load(text: &[u8]) -> Result<Map, Refused>
     ensures { result ≡ load_of text.now }
 {
-    let read = read_lines(text);
-    let map = read.map;
-    if read.wrong == 0 {
-        Loaded {
-            checked: map.check(),
-            map,
-        }
-    } else {
-        Loaded {
-            checked: Checked::Refused(4, read.wrong),
-            map,
-        }
+    let map = read_lines(text)?;
+    match map.check() {
+        Ok(()) => Ok(map),
+        Err(fault) => Err(Refused { fault, map }),
     }
 }

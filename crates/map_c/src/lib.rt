@@ -1,4 +1,6 @@
 // The lookup in an address map as a static library, for a Rust host.
+// The names and signatures are those that C links and may not change, and a static library is a crate of its own: so each export stands here and in the
+// library map.
 #![tactic(auto)]
 
 ghost use Rattle.std.specs.Prelude.{◌≡◌};

@@ -1,24 +1,20 @@
 -- Definitions: what the words of the comparison mean. No paper has them.
-use Rattle.std.specs.Prelude.{cond, List, [], ◌∷◌, ℕ, zero, suc, ◌+◌, ◌*◌, ◌/◌, ◌%◌, eqb, get_or}
+use Rattle.std.specs.Prelude.{cond, List, [], ◌∷◌, ℕ, zero, suc, ◌+◌, ◌*◌, ◌/◌, ◌%◌, eqb, get_or, ⊤, Option, None, Some, Result, Ok, Err}
 use Rattle.time.specs.declared.Time.{Time}
 use Rattle.iic.specs.declared.Iic.{Iic}
-use Rattle.iic.specs.declared.Byte.{Byte}
-use Rattle.iic.specs.declared.Byte.TheVariants as byte
-use Rattle.iic.specs.declared.Ended.{Ended}
-use Rattle.iic.specs.declared.Ended.TheVariants as ended
 use Rattle.iic.specs.State.{default_iic}
 use Rattle.iic.specs.Calls.{peek_of}
-use Rattle.map.specs.declared.Unit.{Unit}
-use Rattle.map.specs.declared.Unit.TheVariants.{Nobody, Number}
 use Rattle.map.specs.declared.Range.{Range}
 use Rattle.map.specs.declared.Map.{Map}
-use Rattle.through.specs.declared.ReadThrough.{ReadThrough}
-use Rattle.through.specs.declared.WriteThrough.{WriteThrough}
+use Rattle.through.specs.declared.Refused.{Refused}
+use Rattle.through.specs.declared.Through.{Through}
+use Rattle.through.specs.Through.{refusal_of, refusal_place}
+use Rattle.refusals.specs.Refusals.{number_of}
 
 -- ## A map
 
-abbrev pub unit_of_word : ℕ → Unit
-unit_of_word n = cond (eqb n 255) Nobody (Number n)
+abbrev pub unit_of_word : ℕ → Option ℕ
+unit_of_word n = cond (eqb n 255) None (Some n)
 
 unfoldable pub range_of_word : ℕ → Range
 range_of_word w = record { first = w % 65536; last = w / 65536 % 65536; unit = unit_of_word (w / 4294967296 % 256) }
@@ -57,19 +53,22 @@ four_units = unit_with 16 ∷ unit_with 32 ∷ unit_with 48 ∷ unit_with 64 ∷
 abbrev pub moment : Time
 moment = record { seconds = 1; fraction = 0 }
 
-abbrev pub byte_or : ℕ → Byte → ℕ
-byte_or at (byte.Is b) = b
-byte_or at (byte.Refused n) = n * 65536 + at
+abbrev pub in_one_number : Refused → ℕ
+in_one_number r = number_of (refusal_of r) * 65536 + refusal_place r
 
-abbrev pub read_number : ReadThrough → ℕ
-read_number r = byte_or r.at r.answer
+abbrev pub byte_or : Result ℕ Refused → ℕ
+byte_or (Ok b) = b
+byte_or (Err r) = in_one_number r
+
+abbrev pub read_number : Through ℕ → ℕ
+read_number r = byte_or r.answer
 
 unfoldable pub shown_of : List Iic → ℕ → ℕ → ℕ
 shown_of states u a = peek_of (get_or states u default_iic) a
 
-abbrev pub shown_or : ℕ → ℕ → Ended → ℕ
-shown_or shows at ended.Finished = shows
-shown_or shows at (ended.Refused n) = n * 65536 + at
+abbrev pub shown_or : ℕ → Result ⊤ Refused → ℕ
+shown_or shows (Ok _) = shows
+shown_or shows (Err r) = in_one_number r
 
-abbrev pub write_number : ℕ → ℕ → WriteThrough → ℕ
-write_number u a r = shown_or (shown_of r.states u a) r.at r.ended
+abbrev pub write_number : ℕ → ℕ → Through ⊤ → ℕ
+write_number u a r = shown_or (shown_of r.states u a) r.answer

@@ -7,19 +7,24 @@ ghost use Rattle.map.specs.Map.{lookup_of};
 ghost use Rattle.map.specs.Reading.{found_number};
 ghost use Rattle.through.specs.Through.{read_through, write_through};
 ghost use Rattle.answers.specs.Calls.{trace_clocks};
-ghost use Rattle.map_calls.specs.Made.{four_units, made_map, moment, range_of_word, read_number, shown_of, unit_of_word, unit_with, write_number};
+ghost use Rattle.map_calls.specs.Made.{four_units, in_one_number, made_map, moment, range_of_word, read_number, shown_of, unit_of_word, unit_with, write_number};
 
 use answers::trace_clocks;
-use iic::{Byte, Ended, Iic};
-use map::{Map, Range, Unit};
-use through::{ReadThrough, WriteThrough};
+use iic::Iic;
+use map::{Map, Range, found_number};
+use through::{Refused, Through};
 use time::Time;
 
-fn unit_of(n: u8) -> Unit
+// The time of every call.
+const NOW: Time = Time {
+    seconds: 1,
+    fraction: 0,
+};
+
+fn unit_of(n: u8) -> Option<u8>
     ensures { result ≡ unit_of_word n }
 {
-    let none = n == 255;
-    if none { Unit::Nobody } else { Unit::Number(n) }
+    if n == 255 { None } else { Some(n) }
 }
 
 #[tactic(auto, unfolding(crate::specs::Made::range_of_word))]
@@ -40,12 +45,10 @@ fn map_of(words: &[u64; 64], count: usize) -> Map
     let mut ranges = [Range {
         first: 0,
         last: 0,
-        unit: Unit::Nobody,
+        unit: None,
     }; 64];
-    let mut i = 0usize;
-    while i < 64 {
-        ranges[i] = range_of(words[i]);
-        i += 1;
+    for (i, &word) in words.iter().enumerate() {
+        ranges[i] = range_of(word);
     }
     Map { ranges, count }
 }
@@ -55,8 +58,7 @@ fn map_of(words: &[u64; 64], count: usize) -> Map
 pub extern "C" fn made_unit(words: &[u64; 64], count: usize, address: u16) -> u64
     ensures { result ≡ found_number (lookup_of (made_map words.now count) address) }
 {
-    let found = map_of(words, count).lookup(address);
-    found.number()
+    found_number(map_of(words, count).lookup(address))
 }
 
 // A peripheral at its default but for SAR.
@@ -78,13 +80,19 @@ fn four_units() -> [Iic; 4]
     [unit_with(16), unit_with(32), unit_with(48), unit_with(64)]
 }
 
-fn read_number(done: ReadThrough) -> u64
+// A refusal in one number: 65536 times its own, and its line or address.
+fn refusal_number(refused: Refused) -> u64
+    ensures { result ≡ in_one_number refused }
+{
+    refused.refusal().number() as u64 * 65536 + refused.place() as u64
+}
+
+fn read_number(done: Through<u8>) -> u64
     ensures { result ≡ read_number done }
 {
-    let answer = done.answer;
-    match answer {
-        Byte::Is(byte) => byte as u64,
-        Byte::Refused(refusal) => refusal as u64 * 65536 + done.at as u64,
+    match done.answer {
+        Ok(byte) => byte as u64,
+        Err(refused) => refusal_number(refused),
     }
 }
 
@@ -93,12 +101,8 @@ fn read_number(done: ReadThrough) -> u64
 pub extern "C" fn made_read(words: &[u64; 64], count: usize, units: usize, address: u16) -> u64
     ensures { result ≡ read_number (read_through (made_map words.now count) units four_units address moment trace_clocks) }
 {
-    let time = Time {
-        seconds: 1,
-        fraction: 0,
-    };
     let map = map_of(words, count);
-    let done = through::read(map, units, four_units(), address, time, trace_clocks());
+    let done = through::read(map, units, four_units(), address, NOW, trace_clocks());
     read_number(done)
 }
 
@@ -112,15 +116,13 @@ fn shown(states: [Iic; 4], u: u8, address: u16) -> u64
     state.peek(address) as u64
 }
 
-fn write_number(done: WriteThrough, u: u8, address: u16) -> u64
+fn write_number(done: Through<()>, u: u8, address: u16) -> u64
     requires { u < 4 }
     ensures { result ≡ write_number u address done }
 {
-    let ended = done.ended;
-    let states = done.states;
-    match ended {
-        Ended::Finished => shown(states, u, address),
-        Ended::Refused(refusal) => refusal as u64 * 65536 + done.at as u64,
+    match done.answer {
+        Ok(()) => shown(done.states, u, address),
+        Err(refused) => refusal_number(refused),
     }
 }
 
@@ -136,10 +138,6 @@ pub extern "C" fn made_write(
 ) -> u64
     ensures { result ≡ write_number (shows % 4) address (write_through (made_map words.now count) units four_units address value moment trace_clocks) }
 {
-    let time = Time {
-        seconds: 1,
-        fraction: 0,
-    };
     let map = map_of(words, count);
     let done = through::write(
         map,
@@ -147,7 +145,7 @@ pub extern "C" fn made_write(
         four_units(),
         address,
         value,
-        time,
+        NOW,
         trace_clocks(),
     );
     write_number(done, shows % 4, address)

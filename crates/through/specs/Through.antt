@@ -1,72 +1,74 @@
 -- Definitions: reads and writes through a map (document 02, (n)): "A read or write through the map does to its unit what a call to it with that address
 -- would and to the others nothing; on `-`, or a unit that the bench lacks, a read gives ff and a write does nothing."
-use Rattle.std.specs.Prelude.{cond, not, ◌&&◌, List, ℕ, leb, ltb, get_or, set}
+use Rattle.std.specs.Prelude.{cond, not, ◌&&◌, ⊤, List, ℕ, ◌<◌, leb, ltb, get_or, set, Option, None, Some, Result, Ok, Err}
+use Rattle.std.specs.Result.{result_map_both}
 use Rattle.time.specs.declared.Time.{Time}
 use Rattle.clocks.specs.declared.Clocks.{Clocks}
 use Rattle.iic.specs.declared.Iic.{Iic}
-use Rattle.iic.specs.declared.Byte.TheVariants as byte
-use Rattle.iic.specs.declared.Ended.TheVariants as ended
-use Rattle.iic.specs.declared.ReadOut.{ReadOut}
-use Rattle.iic.specs.declared.Stepped.{Stepped}
+use Rattle.iic.specs.declared.Answered.{Answered}
+use Rattle.refusals.specs.declared.Refusal.{Refusal}
+use Rattle.refusals.specs.declared.Refusal.TheVariants.{Peripherals}
 use Rattle.iic.specs.State.{default_iic}
 use Rattle.iic.specs.Calls.{read_of, write_of}
-use Rattle.map.specs.declared.Unit.{Unit}
-use Rattle.map.specs.declared.Unit.TheVariants.{Nobody, Number}
 use Rattle.map.specs.declared.Map.{Map}
-use Rattle.map.specs.declared.Found.{Found}
-use Rattle.map.specs.declared.Found.TheVariants as found
-use Rattle.through.specs.declared.Target.{Target}
-use Rattle.through.specs.declared.Target.TheVariants.{Missing, Reached, Refused}
-use Rattle.through.specs.declared.ReadThrough.{ReadThrough}
-use Rattle.through.specs.declared.WriteThrough.{WriteThrough}
-use Rattle.map.specs.Map.{lookup_of}
+use Rattle.map.specs.declared.Fault.{Fault}
+use Rattle.through.specs.declared.Refused.{Refused}
+use Rattle.through.specs.declared.Refused.TheVariants as refused
+use Rattle.through.specs.declared.Through.{Through}
+use Rattle.map.specs.Map.{fault_place, fault_refusal, lookup_of}
+
+-- ## A refusal
+
+abbrev pub of_map : Fault → Refused
+of_map f = refused.Map f
+
+abbrev pub refusal_of : Refused → Refusal
+refusal_of refused.Peripherals = Peripherals
+refusal_of (refused.Map f) = fault_refusal f
+refusal_of (refused.Call n) = n
+
+-- "each with the lowest such address"; a line with 4; 0 with any other
+abbrev pub refusal_place : Refused → ℕ
+refusal_place refused.Peripherals = 0
+refusal_place (refused.Map f) = fault_place f
+refusal_place (refused.Call n) = 0
 
 -- ## Whom a call reaches
 
 -- "a unit that the bench lacks"
-abbrev pub reached_of : ℕ → ℕ → Target
-reached_of u count = cond (ltb u count) (Reached u) Missing
-
-abbrev pub among : ℕ → Unit → Target
-among count Nobody = Missing
-among count (Number u) = reached_of u count
-
-abbrev pub found_among : ℕ → Found → Target
-found_among count (found.At u) = among count u
-found_among count (found.Refused n at) = Refused n at
+abbrev pub among : ℕ → Option ℕ → Option ℕ
+among count None = None
+among count (Some u) = cond (ltb u count) (Some u) None
 
 -- 15, as for a bench; then what the map draws, "both before 1"
-unfoldable pub target_of : Map → ℕ → ℕ → Target
-target_of m count a = cond (not (leb 1 count && leb count 4)) (Refused 15 0) (found_among count (lookup_of m a))
+unfoldable pub target_of : Map → ℕ → ℕ → Result (Option ℕ) Refused
+target_of m count a = cond (not (leb 1 count && leb count 4)) (Err refused.Peripherals) (result_map_both (among count) of_map (lookup_of m a))
 
--- ## A read
+-- a peripheral that is reached is one of so many
+abbrev pub Reaches : ℕ → Result (Option ℕ) Refused → Type 0
+Reaches n (Ok None) = 0 < 1
+Reaches n (Ok (Some u)) = u < n
+Reaches n (Err r) = 0 < 1
 
-abbrev pub read_one : List Iic → ℕ → ReadOut → ReadThrough
-read_one states u r = record { answer = r.answer; at = 0; states = set states u r.state }
+-- ## A call
 
-unfoldable pub read_unit : List Iic → ℕ → ℕ → Time → Clocks → ReadThrough
-read_unit states u a now k = read_one states u (read_of (get_or states u default_iic) a now k)
+abbrev pub called : {A : Type 0} → Result A Refusal → Result A Refused
+called (Ok v) = Ok v
+called (Err n) = Err (refused.Call n)
 
-abbrev pub read_at : List Iic → ℕ → Time → Clocks → Target → ReadThrough
-read_at states a now k Missing = record { answer = byte.Is 255; at = 0; states = states }
-read_at states a now k (Reached u) = read_unit states u a now k
-read_at states a now k (Refused n at) = record { answer = byte.Refused n; at = at; states = states }
+abbrev pub one_at : {A : Type 0} → List Iic → ℕ → Answered A → Through A
+one_at states u o = record { answer = called o.answer; states = set states u o.state }
 
-unfoldable pub read_through : Map → ℕ → List Iic → ℕ → Time → Clocks → ReadThrough
-read_through m count states a now k = read_at states a now k (target_of m count a)
+-- "does to its unit what a call to it with that address would and to the others nothing"
+abbrev pub at_target : {A : Type 0} → List Iic → A → (Iic → Answered A) → Result (Option ℕ) Refused → Through A
+at_target states nobody call (Ok None) = record { answer = Ok nobody; states = states }
+at_target states nobody call (Ok (Some u)) = one_at states u (call (get_or states u default_iic))
+at_target states nobody call (Err r) = record { answer = Err r; states = states }
 
--- ## A write
+-- "a read gives ff"
+unfoldable pub read_through : Map → ℕ → List Iic → ℕ → Time → Clocks → Through ℕ
+read_through m count states a now k = at_target states 255 (λ s. read_of s a now k) (target_of m count a)
 
-abbrev pub write_one : List Iic → ℕ → Stepped → WriteThrough
-write_one states u r = record { ended = r.ended; at = 0; states = set states u r.state }
-
-unfoldable pub write_unit : List Iic → ℕ → ℕ → ℕ → Time → Clocks → WriteThrough
-write_unit states u a value now k = write_one states u (write_of (get_or states u default_iic) a value now k)
-
-abbrev pub write_at : List Iic → ℕ → ℕ → Time → Clocks → Target → WriteThrough
-write_at states a value now k Missing = record { ended = ended.Finished; at = 0; states = states }
-write_at states a value now k (Reached u) = write_unit states u a value now k
-write_at states a value now k (Refused n at) = record { ended = ended.Refused n; at = at; states = states }
-
-unfoldable pub write_through : Map → ℕ → List Iic → ℕ → ℕ → Time → Clocks → WriteThrough
-write_through m count states a value now k = write_at states a value now k (target_of m count a)
+-- "and a write does nothing"
+unfoldable pub write_through : Map → ℕ → List Iic → ℕ → ℕ → Time → Clocks → Through ⊤
+write_through m count states a value now k = at_target states tt (λ s. write_of s a value now k) (target_of m count a)

@@ -1,7 +1,8 @@
 -- Laws: a call through an accepted map that reaches a peripheral is that peripheral's call, and leaves the others as they are (`read_reached`,
 -- `write_reached`, `read_others`, `write_others`); a refusal of the map stands before the call's own (`refused_first`).
 -- Assumes nothing.
-use Rattle.std.specs.Prelude.{Bool, true, false, cond, not, ◌&&◌, List, ◌≡◌, ℕ, ◌≤◌, ◌<◌, leb, ltb, length}
+use Rattle.std.specs.Prelude.{Bool, true, false, cond, not, ◌&&◌, List, ◌≡◌, ℕ, ◌≤◌, ◌<◌, leb, ltb, length, ⊤, Option, None, Some, Result, Ok, Err}
+use Rattle.std.specs.Result.{result_and, result_map_both}
 use Rattle.std.proofs.Math.Path.{refl, ap}
 use Rattle.std.proofs.Common.{sym, ◌∙◌, subst, arith, ltb-true, leb-true, le-leb}
 use Rattle.std.proofs.Math.ListN.{get_or}
@@ -13,106 +14,100 @@ use Rattle.clocks.specs.declared.Clocks.{Clocks}
 use Rattle.iic.specs.declared.Iic.{Iic}
 use Rattle.iic.specs.State.{default_iic}
 use Rattle.iic.specs.Calls.{read_of, write_of}
-use Rattle.map.specs.declared.Unit.TheVariants.{Nobody, Number}
 use Rattle.map.specs.declared.Map.{Map}
-use Rattle.map.specs.declared.Checked.{Checked}
-use Rattle.map.specs.declared.Checked.TheVariants as checked
-use Rattle.map.specs.declared.Found.{Found}
-use Rattle.map.specs.declared.Found.TheVariants as found
-use Rattle.through.specs.declared.Target.{Target}
-use Rattle.through.specs.declared.Target.TheVariants.{Missing, Reached, Refused}
-use Rattle.map.specs.Map.{check_of, if_accepted, lookup_of, ranges_of, unit_at}
-use Rattle.through.specs.Through.{among, found_among, target_of, read_unit, read_at, read_through, write_unit, write_at, write_through}
+use Rattle.map.specs.declared.Fault.{Fault}
+use Rattle.through.specs.declared.Refused.{Refused}
+use Rattle.through.specs.declared.Refused.TheVariants as refused
+use Rattle.map.specs.Map.{check_of, lookup_of, ranges_of, unit_at}
+use Rattle.through.specs.Through.{Reaches, among, of_map, called, at_target, target_of, read_through, write_through}
 
 -- ## Whom a call reaches
 
-abbrev Below : ℕ → Target → Type 0
-Below n Missing = 0 < 1
-Below n (Reached u) = u < n
-Below n (Refused k at) = 0 < 1
+abbrev Target : Type 0
+Target = Result (Option ℕ) Refused
 
-found_below : (count : ℕ) (f : Found) → count ≤ 4 → Below 4 (found_among count f)
-found_below count (found.Refused n at) h = omega arith
-found_below count (found.At Nobody) h = omega arith
-found_below count (found.At (Number u)) h = by (ltb u count) refl
+found_below : (count : ℕ) (f : Result (Option ℕ) Fault) → count ≤ 4 → Reaches 4 (result_map_both (among count) of_map f)
+found_below count (Err f) h = omega arith
+found_below count (Ok None) h = omega arith
+found_below count (Ok (Some u)) h = by (ltb u count) refl
   where
-    by : (t : Bool) → ltb u count ≡ t → Below 4 (cond t (Reached u) Missing)
+    by : (t : Bool) → ltb u count ≡ t → Reaches 4 (Ok (cond t (Some u) None))
     by true e = let k = ltb-true u count e in omega arith
     by false e = omega arith
 
-target_below : (m : Map) (count a : ℕ) → Below 4 (target_of m count a)
+pub target_below : (m : Map) (count a : ℕ) → Reaches 4 (target_of m count a)
 unfolding target_of
 target_below m count a = by (leb 1 count && leb count 4) refl
   where
-    by : (t : Bool) → (leb 1 count && leb count 4) ≡ t → Below 4 (cond (not t) (Refused 15 0) (found_among count (lookup_of m a)))
+    by : (t : Bool) → (leb 1 count && leb count 4) ≡ t → Reaches 4 (cond (not t) (Err refused.Peripherals) (result_map_both (among count) of_map (lookup_of m a)))
     by true e = found_below count (lookup_of m a) (leb-true count 4 (both (leb 1 count) (leb count 4) e).1)
     by false e = omega arith
 
-pub reached_below : (m : Map) (count a u : ℕ) → target_of m count a ≡ Reached u → u < 4
-reached_below m count a u e = subst (Below 4) e (target_below m count a)
+pub reached_below : (m : Map) (count a u : ℕ) → target_of m count a ≡ Ok (Some u) → u < 4
+reached_below m count a u e = subst (Reaches 4) e (target_below m count a)
 
 -- a bench of that many peripherals
 pub record There (count : ℕ) : Type 0 where
   pub some : 1 ≤ count
   pub few : count ≤ 4
 
-there_finds : (m : Map) (count a : ℕ) → There count → target_of m count a ≡ found_among count (lookup_of m a)
+there_finds : (m : Map) (count a : ℕ) → There count → target_of m count a ≡ result_map_both (among count) of_map (lookup_of m a)
 unfolding target_of
 there_finds m count a t = simp (le-leb 1 count t.some, le-leb count 4 t.few)
 
 -- where the map is accepted, the range's unit is meant
-pub accepted_target : (m : Map) (count a : ℕ) → There count → check_of m ≡ checked.Accepted → target_of m count a ≡ among count (unit_at (ranges_of m) a)
+pub accepted_target : (m : Map) (count a : ℕ) → There count → check_of m ≡ Ok tt → target_of m count a ≡ Ok (among count (unit_at (ranges_of m) a))
 unfolding lookup_of
-accepted_target m count a t e = there_finds m count a t ∙ ap (λ (c : Checked). found_among count (if_accepted c (unit_at (ranges_of m) a))) e
+accepted_target m count a t e = there_finds m count a t ∙ ap (λ (c : Result ⊤ Fault). result_map_both (among count) of_map (result_and c (Ok (unit_at (ranges_of m) a)))) e
 
 -- and where it isn't, its refusal stands before the call's own
-pub refused_first : (m : Map) (count a n at : ℕ) → There count → check_of m ≡ checked.Refused n at → target_of m count a ≡ Refused n at
+pub refused_first : (m : Map) (count a : ℕ) (f : Fault) → There count → check_of m ≡ Err f → target_of m count a ≡ Err (of_map f)
 unfolding lookup_of
-refused_first m count a n at t e = there_finds m count a t ∙ ap (λ (c : Checked). found_among count (if_accepted c (unit_at (ranges_of m) a))) e
+refused_first m count a f t e = there_finds m count a t ∙ ap (λ (c : Result ⊤ Fault). result_map_both (among count) of_map (result_and c (Ok (unit_at (ranges_of m) a)))) e
 
 -- ## What is done
 
 module _ (states : List Iic) (long : length states ≡ 4) (m : Map) (count a : ℕ) (now : Time) (k : Clocks) where
-  module _ (u : ℕ) (reached : target_of m count a ≡ Reached u) where
+  module _ (u : ℕ) (reached : target_of m count a ≡ Ok (Some u)) where
     abbrev unit : Iic
     unit = get_or states u default_iic
 
     in_states : u < length states
-    in_states = let h = reached_below m count a u reached in omega arith
+    in_states = let h : u < 4 = subst (Reaches 4) reached (target_below m count a) in omega arith
 
-    pub read_reached : ((read_through m count states a now k).answer ≡ (read_of unit a now k).answer) × (get_or (read_through m count states a now k).states u default_iic ≡ (read_of unit a now k).state)
-    unfolding read_through read_unit
+    pub read_reached : ((read_through m count states a now k).answer ≡ called (read_of unit a now k).answer) × (get_or (read_through m count states a now k).states u default_iic ≡ (read_of unit a now k).state)
+    unfolding read_through
     read_reached =
-        let e : read_through m count states a now k ≡ read_unit states u a now k = ap (read_at states a now k) reached in
+        let e = ap (at_target states 255 (λ s. read_of s a now k)) reached in
         (ap (λ r. r.answer) e, ap (λ r. get_or r.states u default_iic) e ∙ get_or-set_same states u (read_of unit a now k).state default_iic in_states)
 
-    pub write_reached : (value : ℕ) → ((write_through m count states a value now k).ended ≡ (write_of unit a value now k).ended) × (get_or (write_through m count states a value now k).states u default_iic ≡ (write_of unit a value now k).state)
-    unfolding write_through write_unit
+    pub write_reached : (value : ℕ) → ((write_through m count states a value now k).answer ≡ called (write_of unit a value now k).answer) × (get_or (write_through m count states a value now k).states u default_iic ≡ (write_of unit a value now k).state)
+    unfolding write_through
     write_reached value =
-        let e : write_through m count states a value now k ≡ write_unit states u a value now k = ap (write_at states a value now k) reached in
-        (ap (λ r. r.ended) e, ap (λ r. get_or r.states u default_iic) e ∙ get_or-set_same states u (write_of unit a value now k).state default_iic in_states)
+        let e = ap (at_target states tt (λ s. write_of s a value now k)) reached in
+        (ap (λ r. r.answer) e, ap (λ r. get_or r.states u default_iic) e ∙ get_or-set_same states u (write_of unit a value now k).state default_iic in_states)
 
-  module _ (v : ℕ) (other : target_of m count a ≡ Reached v → ⊥) where
-    other_unit : (t : Target) → target_of m count a ≡ t → (u : ℕ) → t ≡ Reached u → v ≡ u → ⊥
-    other_unit t e u f g = other (e ∙ f ∙ ap Reached (sym g))
+  module _ (v : ℕ) (other : target_of m count a ≡ Ok (Some v) → ⊥) where
+    other_unit : (t : Target) → target_of m count a ≡ t → (u : ℕ) → t ≡ Ok (Some u) → v ≡ u → ⊥
+    other_unit t e u f g = other (e ∙ f ∙ ap (λ (n : ℕ). Ok (Some n)) (sym g))
 
     pub read_others : get_or (read_through m count states a now k).states v default_iic ≡ get_or states v default_iic
-    unfolding read_through read_unit
+    unfolding read_through
     read_others = by (target_of m count a) refl
       where
-        by : (t : Target) → target_of m count a ≡ t → get_or (read_at states a now k t).states v default_iic ≡ get_or states v default_iic
-        by Missing e = refl
-        by (Reached u) e = get_or-set_other states u v (read_of (get_or states u default_iic) a now k).state default_iic (other_unit (Reached u) e u refl)
-        by (Refused n at) e = refl
+        by : (t : Target) → target_of m count a ≡ t → get_or (at_target states 255 (λ s. read_of s a now k) t).states v default_iic ≡ get_or states v default_iic
+        by (Ok None) e = refl
+        by (Ok (Some u)) e = get_or-set_other states u v (read_of (get_or states u default_iic) a now k).state default_iic (other_unit (Ok (Some u)) e u refl)
+        by (Err r) e = refl
 
     pub write_others : (value : ℕ) → get_or (write_through m count states a value now k).states v default_iic ≡ get_or states v default_iic
-    unfolding write_through write_unit
+    unfolding write_through
     write_others value = by (target_of m count a) refl
       where
-        by : (t : Target) → target_of m count a ≡ t → get_or (write_at states a value now k t).states v default_iic ≡ get_or states v default_iic
-        by Missing e = refl
-        by (Reached u) e = get_or-set_other states u v (write_of (get_or states u default_iic) a value now k).state default_iic (other_unit (Reached u) e u refl)
-        by (Refused n at) e = refl
+        by : (t : Target) → target_of m count a ≡ t → get_or (at_target states tt (λ s. write_of s a value now k) t).states v default_iic ≡ get_or states v default_iic
+        by (Ok None) e = refl
+        by (Ok (Some u)) e = get_or-set_other states u v (write_of (get_or states u default_iic) a value now k).state default_iic (other_unit (Ok (Some u)) e u refl)
+        by (Err r) e = refl
 
 -- ## As the code does it
 

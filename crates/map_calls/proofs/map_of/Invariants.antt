@@ -1,11 +1,7 @@
 -- The ranges so far are those of their words.
-use Prim.Native.Nat.{◌-◌, ◌≤◌}
 use Rattle.map.specs.Reading.{no_range}
 use Rattle.map_calls.specs.MadeLaws.{Making}
 use Rattle.map_calls.proofs.map_of.Given as goal
 
 abbrev pub invariant-loop-i : goal.invariant-loop-i
-invariant-loop-i l = (l.i ≤ 64) × Making l.words no_range l.ranges l.i
-
-abbrev pub decreases-loop-i : goal.decreases-loop-i
-decreases-loop-i l = 64 - l.i
+invariant-loop-i l = Making l.words no_range l.ranges l.i

@@ -1,40 +1,28 @@
 -- `map::Map::wrong_line` meets its contract: each range so far is sound.
 -- Assumes nothing.
-use mathlib.Core.Logic.{inl, inr}
-use native.Mathlib.Numerals.{add-one}
-use Rattle.map.proofs.MapLaws.{ranges_on, ranges_end, wrong_here, wrong_on, wrong_none, wrong_some, wrong_many, wrong_clear}
-use mathlib.Core.Path.{refl, sym, ap, ◌∙◌}
-use Prim.Native.Nat.{ℕ, suc, ◌+◌}
-use native.Mathlib.Omega.{arith}
-use lib.ListN.{drop}
-use Rattle.map.specs.Map.{ranges_of, wrong_from}
+use Rattle.std.proofs.Common.{ℕ, suc, ◌+◌, Some, sym, ap, ◌∙◌, add-one, drop}
+use Rattle.map.specs.Map.{wrong_from}
+use Rattle.map.proofs.MapLaws.{line_at, line_end, wrong_here, wrong_on, wrong_none, wrong_some, wrong_many, wrong_clear}
 use Rattle.map.proofs.Map.wrong_line.Goals as goal
 
-pub loop-i-init : goal.loop-i-init
-loop-i-init c = (omega arith, omega arith, refl)
-
-pub returns-then-i-ge64 : goal.returns-then-i-ge64
-returns-then-i-ge64 c =
-    let m = c.args.self in
-    let e = c.loop-i.invariant.2 ∙ wrong_none _ _ (ranges_end m.ranges m.count c.loop-i.i (inr (let t = c.if-i-ge64.true in omega arith))) in
-    sym (wrong_many m e (let t = c.if-i-ge64.true in let w = c.loop-i-test.true in omega arith))
-
-pub returns-then-not-sound : goal.returns-then-not-sound
-returns-then-not-sound c =
-    let m = c.args.self in
-    let i = c.loop-i.i in
-    let on = ranges_on m.ranges m.count i _ c.loop-i-test.true (let t = c.if-i-ge64.false in omega arith) in
-    add-one i ∙ sym (wrong_some m i (c.loop-i.invariant.2 ∙ wrong_here (suc i) _ _ _ on (sym c.is_sound-sound.ensures ∙ c.if-not-sound.true)))
+pub returns-then-not-is_sound : goal.returns-then-not-is_sound
+returns-then-not-is_sound c =
+    let l = c.loop-i in
+    sym (wrong_some _ (l.i + 1) (ap (wrong_from 1) (sym c.lines-range-items.ensures.ranges) ∙ l.invariant
+    ∙ wrong_here (suc l.i) _ _ _ (line_at _ l.i _ c.loop-i-test.true) (sym c.is_sound.ensures ∙ c.if-not-is_sound.true) ∙ ap Some (sym (add-one l.i))))
 
 pub loop-i-preserved : goal.loop-i-preserved
 loop-i-preserved c =
-    let m = c.args.self in
-    let i = c.loop-i.i in
-    let on = ranges_on m.ranges m.count i _ c.loop-i-test.true (let t = c.if-i-ge64.false in omega arith) in
-    (omega arith, omega arith, c.loop-i.invariant.2 ∙ wrong_on (suc i) _ _ _ on (sym c.is_sound-sound.ensures ∙ c.if-not-sound.false) ∙ ap (λ (n : ℕ). wrong_from (suc n) (drop (i + 1) (ranges_of m))) (sym (add-one i)))
+    let l = c.loop-i in
+    l.invariant ∙ wrong_on (suc l.i) _ _ _ (line_at _ l.i _ c.loop-i-test.true) (sym c.is_sound.ensures ∙ c.if-not-is_sound.false)
+    ∙ ap (λ (n : ℕ). wrong_from (suc n) (drop (l.i + 1) c.lines-range-items.result.now)) (sym (add-one l.i))
 
-pub returns : goal.returns
-returns c =
-    let m = c.args.self in
-    let w = c.loop-i.invariant in
-    sym (wrong_clear m (w.2 ∙ wrong_none _ _ (ranges_end m.ranges m.count c.loop-i.i (inl c.loop-i-test.false))) (let t = c.loop-i-test.false in omega arith))
+pub returns-then-self-gt64 : goal.returns-then-self-gt64
+returns-then-self-gt64 c =
+    let l = c.loop-i in
+    sym (wrong_many _ (ap (wrong_from 1) (sym c.lines-range-items.ensures.ranges) ∙ l.invariant ∙ wrong_none _ _ (line_end _ l.i c.loop-i-test.false)) c.if-self-gt64.true)
+
+pub returns-else-self-gt64 : goal.returns-else-self-gt64
+returns-else-self-gt64 c =
+    let l = c.loop-i in
+    sym (wrong_clear _ (ap (wrong_from 1) (sym c.lines-range-items.ensures.ranges) ∙ l.invariant ∙ wrong_none _ _ (line_end _ l.i c.loop-i-test.false)) c.if-self-gt64.false)

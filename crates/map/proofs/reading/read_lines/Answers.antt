@@ -1,8 +1,7 @@
 -- `map::reading::read_lines` meets its contract: what is left to read goes on from the map so far.
 -- Assumes nothing.
-use mathlib.Core.Path.{refl, sym, ap, ◌∙◌}
-use mathlib.Core.Bool.{true}
-use native.Mathlib.Omega.{arith}
+use Rattle.std.proofs.Common.{◌≡◌, refl, sym, ap, ◌∙◌, true, rules}
+use Rattle.std.specs.Prelude.{Err}
 use Rattle.lines.specs.Lines.{lines_in}
 use Rattle.lines.specs.LineLaws.{line_within}
 use Rattle.map.specs.declared.Map.{Map}
@@ -14,31 +13,22 @@ pub loop-at-init : goal.loop-at-init
 unfolding read_of
 loop-at-init c = (empty_few _ c.new-map.ensures, ap (λ (m : Map). read_from m (lines_in true c.args.text.now)) (sym c.new-map.ensures))
 
-pub slice_bounds-with_line-count : goal.slice_bounds-with_line-count
-slice_bounds-with_line-count c = let e = c.line_end-end.ensures in omega arith
-
-pub slice_bounds-with_line-start : goal.slice_bounds-with_line-start
-slice_bounds-with_line-start c = let e = c.line_end-end.ensures in omega arith
-
 pub slice_bounds-with_line-end : goal.slice_bounds-with_line-end
 slice_bounds-with_line-end c = line_within _ _ _ c.loop-at-test.true c.line_end-end.ensures
 
-pub returns-then-next-ne0 : goal.returns-then-next-ne0
-returns-then-next-ne0 c =
+pub returns-in_err-map : goal.returns-in_err-map
+returns-in_err-map c =
     let v = c.loop-at in
     let e = c.line_end-end in
-    let w = c.with_line-next in
-    sym (v.invariant.1 ∙ read_stop v.map c.args.text.now v.at e.result _ c.loop-at-test.true e.ensures refl w.result w.ensures c.if-next-ne0.true)
-
-pub loop-at-smaller : goal.loop-at-smaller
-loop-at-smaller c = let e = c.line_end-end.ensures in let p = c.past-at.ensures in let t = c.loop-at-test.true in omega arith
+    let g : c.from_residual.result ≡ Err c.in_err-map.field-0.0 = search rules in
+    g ∙ sym (v.invariant.1 ∙ read_stop v.map c.args.text.now v.at e.result _ c.loop-at-test.true e.ensures refl _ (sym c.in_err-map.was ∙ c.with_line.ensures))
 
 pub loop-at-preserved : goal.loop-at-preserved
 loop-at-preserved c =
     let v = c.loop-at in
     let e = c.line_end-end in
-    let w = c.with_line-next in
-    (line_few v.map _ w.result w.ensures c.if-next-ne0.false, v.invariant.1 ∙ read_on_lem v.map c.args.text.now v.at e.result c.past-at.result c.loop-at-test.true e.ensures c.past-at.ensures w.result w.ensures c.if-next-ne0.false)
+    let n = c.in_ok-map.map in
+    (line_few v.map _ n (sym c.with_line.ensures ∙ c.in_ok-map.was), v.invariant.1 ∙ read_on_lem v.map c.args.text.now v.at e.result c.past-at.result c.loop-at-test.true e.ensures c.past-at.ensures n (sym c.in_ok-map.was ∙ c.with_line.ensures))
 
 pub returns : goal.returns
 returns c = let v = c.loop-at in sym (v.invariant.1 ∙ read_end v.map c.args.text.now v.at c.loop-at-test.false)

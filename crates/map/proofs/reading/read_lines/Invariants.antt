@@ -1,7 +1,4 @@
-use mathlib.Core.Path.{◌≡◌}
-use mathlib.Core.Bool.{true}
-use Prim.Native.Nat.{◌-◌, ◌≤◌}
-use lib.ListN.{length, drop}
+use Rattle.std.proofs.Common.{◌≡◌, ◌-◌, ◌≤◌, true, length, drop}
 use Rattle.lines.specs.Lines.{lines_in}
 use Rattle.map.specs.Reading.{read_of, read_from}
 use Rattle.map.proofs.reading.read_lines.Given as goal
