@@ -2,37 +2,35 @@
 // `wave` its signals as a VCD file, in two buffers of 64 KiB, whatever the length of the trace or of a line.
 #![tactic(auto)]
 
-ghost use Rattle.std.specs.Prelude.{◌≡◌, ◌-◌, ◌≤◌, min, length, take, drop};
+ghost use Rattle.std.specs.Prelude.{◌≡◌, ◌-◌, ◌≤◌, IfOk, IfSome, length, min, take, drop};
 
 use answers::Output;
+use commands::{exit_code, say};
 use player::Player;
 use std::io;
-use std::io::{ErrorKind, Read};
+use std::io::Read;
 use std::process::ExitCode;
 use std::rt::Env;
 
-// The bytes of the part that were played, the player after them, and whether all that they gave was written, or why not.
+const NAME: &str = "play";
+
+// The bytes of a part that were played, and the player after them.
 #[derive(Clone, Copy)]
 struct Played {
-    pub used: usize,
-    pub written: io::Result<()>,
-    pub player: Player,
+    used: usize,
+    player: Player,
 }
 
-// Whether more is to be read, or why nothing more is written, the bytes held of a line that was begun, and the player.
+// The bytes held of a line that was begun, and the player before it. The number stands apart from its buffer: the next read goes into the rest of the
+// buffer.
 #[derive(Clone, Copy)]
-struct Turn {
-    pub more: io::Result<bool>,
-    pub have: usize,
-    pub player: Player,
+struct Begun {
+    have: usize,
+    player: Player,
 }
 
-// Writes all of it.
-fn write_out(rt: &impl Print, text: &[u8]) -> io::Result<()> {
-    rt.write_all(text)
-}
-
-// Plays what the output has room for and writes it.
+// Plays what the output has room for and writes it. `rt`, `wanted` and `output` stay parameters here and below: a struct of them would hold a lent
+// buffer, which each call has to lend on again.
 fn play_some(
     rt: &impl Print,
     player: Player,
@@ -40,18 +38,15 @@ fn play_some(
     part: &[u8],
     ended: bool,
     output: &mut [u8],
-) -> Played
-    ensures { result.used ≤ length part.now }
+) -> io::Result<Played>
+    ensures { IfOk result (λ p. p.used ≤ length part.now) }
 {
-    let p = player.play_lines(wanted, part, ended, output);
-    let written = p.written;
-    let done = write_out(rt, &output[0..written]);
-    let next = p.player;
-    Played {
-        used: p.used,
-        written: done,
-        player: next,
-    }
+    let done = player.play_lines(wanted, part, ended, output);
+    rt.write_all(&output[..done.written])?;
+    Ok(Played {
+        used: done.used,
+        player: done.player,
+    })
 }
 
 // Plays the whole lines of a part, the output emptied as often as it is full.
@@ -62,38 +57,21 @@ fn play_part(
     part: &[u8],
     ended: bool,
     output: &mut [u8],
-) -> Played
-    ensures { result.used ≤ length part.now }
+) -> io::Result<Played>
+    ensures { IfOk result (λ p. p.used ≤ length part.now) }
 {
     let mut used = 0usize;
     let mut last = player;
+    // a `while`: how far a turn goes on is what the player used
     while used < part.len() {
-        let p = play_some(rt, last, wanted, &part[used..], ended, output);
-        let next = p.player;
-        last = next;
-        used += p.used;
-        if p.written.is_err() {
-            return Played {
-                used,
-                written: p.written,
-                player: last,
-            };
-        }
-        if p.used == 0 {
+        let more = play_some(rt, last, wanted, &part[used..], ended, output)?;
+        used += more.used;
+        last = more.player;
+        if more.used == 0 {
             break;
         }
     }
-    Played {
-        used,
-        written: Ok(()),
-        player: last,
-    }
-}
-
-fn least(a: usize, b: usize) -> usize
-    ensures { result ≡ min a b }
-{
-    if a < b { a } else { b }
+    Ok(Played { used, player: last })
 }
 
 // The bytes of a line that was begun move to the front, at most 65 of them: more make it no more malformed.
@@ -101,47 +79,36 @@ fn keep(input: &mut [u8], from: usize, n: usize) -> usize
     requires { (from ≤ n) × (n ≤ length input.old) }
     ensures { (result ≡ min 65 (n - from)) × (take result input.new ≡ take result (drop from input.old)) }
 {
-    let m = least(65, n - from);
-    let mut i = 0usize;
-    while i < m {
-        input[i] = input[from + i];
-        i += 1;
-    }
+    let m = (n - from).min(65);
+    input.copy_within(from..from + m, 0);
     m
 }
 
-// One read, after the bytes that are held, and its lines.
+// One read, after the bytes that are held, and its lines; nothing where no more is to be read.
 fn next_turn(
     rt: &(impl Print + Eprint),
     reader: &mut impl Read,
-    player: Player,
+    begun: Begun,
     wanted: Output,
     input: &mut [u8],
-    have: usize,
     output: &mut [u8],
-) -> Turn
-    requires { have ≤ length input.old }
-    ensures { result.have ≤ 65 }
+) -> io::Result<Option<Begun>>
+    requires { begun.have ≤ length input.old }
+    ensures { IfOk result (λ next. IfSome next (λ b. b.have ≤ 65)) }
 {
+    let have = begun.have;
     let Ok(got) = reader.read(&mut input[have..]) else {
-        let _ = eprintln!(rt; "play: standard input can't be read");
-        return Turn {
-            more: Ok(false),
-            have: 0,
-            player,
-        };
+        say(rt, NAME, "standard input can't be read");
+        return Ok(None);
     };
     let n = have + got;
-    let ended = n == have;
-    let p = play_part(rt, player, wanted, &input[0..n], ended, output);
-    let next = p.player;
-    let kept = keep(input, p.used, n);
-    let more = !ended & (next.lines < 1000000);
-    Turn {
-        more: p.written.map(|()| more),
-        have: kept,
-        player: next,
+    let played = play_part(rt, begun.player, wanted, &input[..n], got == 0, output)?;
+    let player = played.player;
+    let have = keep(input, played.used, n);
+    if (got == 0) | (1000000 <= player.lines) {
+        return Ok(None);
     }
+    Ok(Some(Begun { have, player }))
 }
 
 fn run(
@@ -153,53 +120,35 @@ fn run(
 ) -> io::Result<()>
     requires { 65 ≤ length input.old }
 {
-    let mut player = Player::new();
-    let mut have = 0usize;
-    let mut turns = u64::MAX;
-    while 0 < turns {
-        turns -= 1;
-        let t = next_turn(rt, reader, player, wanted, input, have, output);
-        if !t.more? {
-            return Ok(());
-        }
-        let next = t.player;
-        player = next;
-        have = t.have;
+    let mut begun = Begun {
+        have: 0,
+        player: Player::new(),
+    };
+    for _ in 0..u64::MAX {
+        let Some(next) = next_turn(rt, reader, begun, wanted, input, output)? else {
+            break;
+        };
+        begun = next;
     }
     Ok(())
-}
-
-// Whether a word is that of four letters.
-fn says(word: &[u8], name: &[u8; 4]) -> bool {
-    if word.len() == 4 {
-        return (word[0] == name[0])
-            & (word[1] == name[1])
-            & (word[2] == name[2])
-            & (word[3] == name[3]);
-    }
-    false
 }
 
 // By the first argument.
 fn wanted(rt: &impl Env) -> Output {
     let mut word = [0u8; 5];
     let n = rt.arg(1, &mut word).unwrap_or(0);
-    if says(&word[0..n], b"busy") {
-        return Output::Reports;
+    match &word[..n] {
+        b"busy" => Output::Reports,
+        b"wave" => Output::Waves,
+        _ => Output::Answers,
     }
-    if says(&word[0..n], b"wave") {
-        return Output::Waves;
-    }
-    Output::Answers
 }
 
 // What stands before the first line's text: of a VCD file the unit of time, and of each signal the byte that stands for it and its name.
 fn begin(rt: &impl Print, wanted: Output) -> io::Result<()> {
     match wanted {
-        Output::Answers => Ok(()),
-        Output::Reports => Ok(()),
-        Output::Waves => write_out(
-            rt,
+        Output::Answers | Output::Reports => Ok(()),
+        Output::Waves => rt.write_all(
             b"$timescale 1 ns $end
 $scope module iic $end
 $var wire 1 ! SCL $end
@@ -233,19 +182,6 @@ fn play(rt: &(impl Env + Input + Print + Eprint)) -> io::Result<()> {
     run(rt, &mut reader, wanted, &mut input, &mut output)
 }
 
-// Says that standard output can't be written, or nothing where nobody reads on, and gives the exit status: then 141, as a shell tells of a program that
-// a closed pipe ends.
-fn unwritten(rt: &impl Eprint, error: io::Error) -> ExitCode {
-    if error.kind() == ErrorKind::BrokenPipe {
-        return ExitCode::from(141);
-    }
-    let _ = eprintln!(rt; "play: standard output can't be written");
-    ExitCode::SUCCESS
-}
-
 fn main(rt: HostRuntime) -> ExitCode {
-    match play(&rt) {
-        Ok(()) => ExitCode::SUCCESS,
-        Err(error) => unwritten(&rt, error),
-    }
+    exit_code(&rt, NAME, play(&rt))
 }

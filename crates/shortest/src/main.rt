@@ -4,60 +4,33 @@
 
 ghost use Rattle.std.specs.Prelude.{◌≤◌, length};
 
-use search::Found;
-use std::env::FillError;
+use commands::{exit_code, is_given, say};
+use lines::reading::digit;
+use search::Unfound;
 use std::io;
-use std::io::{ErrorKind, Read};
+use std::io::Read;
 use std::process::ExitCode;
 use std::rt::Env;
 
-// What an argument says.
-#[derive(Clone, Copy)]
-enum Asked {
-    Number(u8),
-    Other,
-}
+const NAME: &str = "shortest";
 
-// The bytes held of a trace, and how many of them are its last line's.
+// How many bytes are held of a trace, and how many of them are its last line's.
 #[derive(Clone, Copy)]
 struct Held {
     used: usize,
     line: usize,
 }
 
-// The bytes held, and whether all could be read.
-#[derive(Clone, Copy)]
-struct Trace {
-    used: usize,
-    fine: bool,
-}
-
-fn say(rt: &impl Eprint, text: &str) {
-    let _ = eprint!(rt; "shortest: {text}");
-}
-
 // A decimal number up to 255.
-fn number_of(text: &[u8]) -> Asked {
-    if text.len() == 0 {
-        return Asked::Other;
+fn number_of(text: &[u8]) -> Option<u8> {
+    if text.is_empty() {
+        return None;
     }
-    let mut n = 0u64;
-    let mut i = 0usize;
-    while i < text.len() {
-        let digit = text[i];
-        if digit < b'0' {
-            return Asked::Other;
-        }
-        if b'9' < digit {
-            return Asked::Other;
-        }
-        n = n * 10 + (digit - b'0') as u64;
-        if 255 < n {
-            return Asked::Other;
-        }
-        i += 1;
+    let mut n = 0u8;
+    for &byte in text {
+        n = n.checked_mul(10)?.checked_add(digit(byte, 10)?)?;
     }
-    Asked::Number(n as u8)
+    Some(n)
 }
 
 // 1 for a byte that is held, a newline or one of the first 65 of its line; else 0.
@@ -87,113 +60,58 @@ fn hold(trace: &mut [u8], held: Held, part: &[u8]) -> Held
     requires { held.used ≤ length trace.old }
     ensures { result.used ≤ length trace.old }
 {
-    let mut used = held.used;
-    let mut line = held.line;
-    let mut i = 0usize;
-    while i < part.len() {
+    let Held { mut used, mut line } = held;
+    for &byte in part {
         if trace.len() <= used {
             break;
         }
-        let byte = part[i];
         trace[used] = byte;
         used += kept(line, byte);
         line = line_after(line, byte);
-        i += 1;
     }
     Held { used, line }
 }
 
-// Reads until the trace ends or the room does.
-fn read_trace(reader: &mut impl Read, trace: &mut [u8]) -> Trace
-    ensures { result.used ≤ length trace.old }
-{
+// The bytes held of a trace that is read until it ends or the room does.
+fn read_trace<'a>(reader: &mut impl Read, room: &'a mut [u8]) -> io::Result<&'a [u8]> {
     let mut part = [0u8; 4096];
     let mut held = Held { used: 0, line: 0 };
-    let mut turns = u64::MAX;
-    while 0 < turns {
-        turns -= 1;
-        let Ok(n) = reader.read(&mut part) else {
-            return Trace {
-                used: held.used,
-                fine: false,
-            };
-        };
+    for _ in 0..u64::MAX {
+        let n = reader.read(&mut part)?;
         if n == 0 {
             break;
         }
-        held = hold(trace, held, &part[0..n]);
-        if trace.len() <= held.used {
+        held = hold(room, held, &part[..n]);
+        if room.len() <= held.used {
             break;
         }
     }
-    Trace {
-        used: held.used,
-        fine: true,
-    }
+    Ok(&room[..held.used])
 }
 
-fn show(rt: &impl Print, first: usize, length: usize) -> io::Result<()> {
-    println!(rt; "{first}\t{length}")
-}
-
-fn refuse(rt: &impl Eprint, refusal: u8, number: u8, limit: u16) {
-    let _ = if refusal == 17 {
-        eprintln!(rt; "shortest: 17, the trace has more lines than {limit}")
-    } else {
-        eprintln!(rt; "shortest: 18, no run of the trace's lines draws {number}")
-    };
-}
-
+// Prints the run, or says why there is none.
 fn answer(rt: &(impl Print + Eprint), trace: &[u8], number: u8, limit: u16) -> io::Result<()> {
-    let done = search::shortest(trace, number, limit);
-    let found = done.found;
-    match found {
-        Found::At(first, length) => show(rt, first, length),
-        Found::Refused(refusal) => {
-            refuse(rt, refusal, number, limit);
-            Ok(())
+    match search::shortest(trace, number, limit).found {
+        Ok(run) => return println!(rt; "{}\t{}", run.first, run.length),
+        Err(Unfound::LongTrace) => {
+            let _ = eprintln!(rt; "{NAME}: 17, the trace has more lines than {limit}");
+        }
+        Err(Unfound::NotDrawn) => {
+            let _ = eprintln!(rt; "{NAME}: 18, no run of the trace's lines draws {number}");
         }
     }
+    Ok(())
 }
 
 // There is room for 992 lines, of at most 66 bytes each.
 fn search_for(rt: &(impl Input + Print + Eprint), number: u8, limit: u16) -> io::Result<()> {
     let mut reader = rt.reader();
     let mut room = [0u8; 65536];
-    let read = read_trace(&mut reader, &mut room);
-    let used = read.used;
-    if read.fine {
-        answer(rt, &room[0..used], number, limit)
-    } else {
-        say(rt, "standard input can't be read\n");
-        Ok(())
-    }
-}
-
-// Whether a word is the option `--leaflet`.
-fn is_leaflet(word: &[u8]) -> bool {
-    let option = b"--leaflet";
-    if word.len() != 9 {
-        return false;
-    }
-    let mut i = 0usize;
-    while i < 9 {
-        if word[i] != option[i] {
-            return false;
-        }
-        i += 1;
-    }
-    true
-}
-
-// Whether there is an argument at a place.
-fn is_given(rt: &impl Env, at: usize) -> bool {
-    let mut word = [0u8; 1];
-    match rt.arg(at, &mut word) {
-        Ok(_) => true,
-        Err(FillError::TooLong) => true,
-        Err(FillError::NotPresent) => false,
-    }
+    let Ok(trace) = read_trace(&mut reader, &mut room) else {
+        say(rt, NAME, "standard input can't be read");
+        return Ok(());
+    };
+    answer(rt, trace, number, limit)
 }
 
 // The search with that limit, for the number that is the argument at that place and the last.
@@ -204,39 +122,22 @@ fn search_by(rt: &(impl Env + Input + Print + Eprint), at: usize, limit: u16) ->
     let n = rt.arg(at, &mut word).unwrap_or(0);
     let asked = number_of(&word[..n]);
     if !is_given(rt, at) | is_given(rt, at + 1) {
-        say(rt, "[--leaflet] NUMBER is wanted\n");
+        say(rt, NAME, "[--leaflet] NUMBER is wanted");
         return Ok(());
     }
-    match asked {
-        Asked::Number(number) => search_for(rt, number, limit),
-        Asked::Other => {
-            say(rt, "NUMBER is a decimal number from 0 to 255\n");
-            Ok(())
-        }
-    }
-}
-
-// Says that standard output can't be written, or nothing where nobody reads on, and gives the exit status: then 141, as a shell tells of a program that
-// a closed pipe ends.
-fn unwritten(rt: &impl Eprint, error: io::Error) -> ExitCode {
-    if error.kind() == ErrorKind::BrokenPipe {
-        return ExitCode::from(141);
-    }
-    say(rt, "standard output can't be written\n");
-    ExitCode::SUCCESS
+    let Some(number) = asked else {
+        say(rt, NAME, "NUMBER is a decimal number from 0 to 255");
+        return Ok(());
+    };
+    search_for(rt, number, limit)
 }
 
 fn main(rt: HostRuntime) -> ExitCode {
     let mut word = [0u8; 4096];
     let n = rt.arg(1, &mut word).unwrap_or(0);
-    let leaflet = is_leaflet(&word[..n]);
-    let shown = if leaflet {
-        search_by(&rt, 2, 32)
-    } else {
-        search_by(&rt, 1, 256)
+    let shown = match &word[..n] {
+        b"--leaflet" => search_by(&rt, 2, 32),
+        _ => search_by(&rt, 1, 256),
     };
-    match shown {
-        Ok(()) => ExitCode::SUCCESS,
-        Err(error) => unwritten(&rt, error),
-    }
+    exit_code(&rt, NAME, shown)
 }

@@ -7,11 +7,12 @@
 // whole transfers are the ones of examples/.
 #![tactic(auto)]
 
-ghost use Rattle.std.specs.Prelude.{◌≤◌, length};
+ghost use Rattle.std.specs.Prelude.{◌≤◌, ◌<◌, ◌^◌, length};
 
 use answers::Output;
+use commands::read_full;
+use refusals::number_ended;
 use std::fs;
-use std::io::Read;
 use std::rt::Files;
 
 fn text(rt: &impl Print, bytes: &[u8]) {
@@ -32,26 +33,11 @@ fn show(rt: &impl Print, wanted: Output, trace: &[u8], out: &mut [u8]) {
     text(rt, b" ");
     number(rt, s.lines);
     text(rt, b" ");
-    number(rt, s.refusal as u64);
+    number(rt, number_ended(s.ended) as u64);
     text(rt, b"\n");
 }
 
-// Reads until `buf` is full, the input ends or a read fails, and gives how many bytes it put at the start of `buf`.
-fn read_full(reader: &mut impl Read, buf: &mut [u8]) -> usize
-    ensures { result ≤ length buf.new }
-{
-    let mut done = 0usize;
-    while done < buf.len() {
-        let n = reader.read(&mut buf[done..]).unwrap_or(0);
-        if n == 0 {
-            break;
-        }
-        done += n;
-    }
-    done
-}
-
-// The same of a file, which is closed again; of one that can't be opened nothing.
+// How many bytes of a file it put at the start of `buf`, as far as there is room; the file is closed again. Of one that can't be opened nothing.
 fn read_file(rt: &impl Files, name: &str, buf: &mut [u8]) -> usize
     ensures { result ≤ length buf.new }
 {
@@ -61,99 +47,113 @@ fn read_file(rt: &impl Files, name: &str, buf: &mut [u8]) -> usize
     }
 }
 
-// The trace of a file.
-fn file(rt: &(impl Files + Print), wanted: Output, name: &str, out: &mut [u8]) {
+// Plays the trace of a file, with room for so many bytes.
+fn file<const ROOM: usize>(rt: &(impl Files + Print), wanted: Output, name: &str)
+    requires { ROOM < 2 ^ 32 }
+{
     let mut trace = [0u8; 65536];
     let n = read_file(rt, name, &mut trace);
     text(rt, name.as_bytes());
     text(rt, b"\n");
-    show(rt, wanted, &trace[..n], out);
+    let mut out = [0u8; ROOM];
+    show(rt, wanted, &trace[..n], &mut out);
 }
 
-// With room for every answer.
-fn all(rt: &(impl Files + Print), name: &str) {
-    let mut out = [0u8; 65536];
-    file(rt, Output::Answers, name, &mut out);
-}
-
-// With room for 4096 bytes.
-fn some(rt: &(impl Files + Print), name: &str) {
-    let mut out = [0u8; 4096];
-    file(rt, Output::Answers, name, &mut out);
+// Plays the traces of files, with room for all that they give.
+fn files(rt: &(impl Files + Print), wanted: Output, names: &[&str]) {
+    for name in names {
+        file::<65536>(rt, wanted, name);
+    }
 }
 
 // With room for 79 and for 80 bytes.
 fn narrow(rt: &(impl Files + Print), name: &str) {
-    let mut least = [0u8; 79];
-    file(rt, Output::Answers, name, &mut least);
-    let mut enough = [0u8; 80];
-    file(rt, Output::Answers, name, &mut enough);
-}
-
-// The reports, with room for all.
-fn busy(rt: &(impl Files + Print), name: &str) {
-    let mut out = [0u8; 65536];
-    file(rt, Output::Reports, name, &mut out);
-}
-
-// The signals, with room for all.
-fn wave(rt: &(impl Files + Print), name: &str) {
-    let mut out = [0u8; 65536];
-    file(rt, Output::Waves, name, &mut out);
+    file::<79>(rt, Output::Answers, name);
+    file::<80>(rt, Output::Answers, name);
 }
 
 fn forms(rt: &(impl Files + Print)) {
-    all(rt, "document-01.trace");
-    all(rt, "verbs.trace");
-    all(rt, "malformed.trace");
-    all(rt, "times.trace");
-    all(rt, "first-time-0.trace");
-    all(rt, "refused-7.trace"); // 13 on lines 4 5 6
-    all(rt, "refused-13.trace"); // 13 on lines 3
-    all(rt, "refused-8.trace");
-    all(rt, "empty.trace");
-    all(rt, "newline.trace");
-    all(rt, "newlines.trace");
+    files(
+        rt,
+        Output::Answers,
+        &[
+            "document-01.trace",
+            "verbs.trace",
+            "malformed.trace",
+            "times.trace",
+            "first-time-0.trace",
+            "refused-7.trace", // 13 on lines 4 5 6
+            "refused-13.trace", // 13 on lines 3
+            "refused-8.trace",
+            "empty.trace",
+            "newline.trace",
+            "newlines.trace",
+        ],
+    );
 }
 
 fn ends(rt: &(impl Files + Print)) {
-    all(rt, "last-open.trace");
-    all(rt, "last-open-malformed.trace");
-    all(rt, "open-long.trace");
+    files(
+        rt,
+        Output::Answers,
+        &[
+            "last-open.trace",
+            "last-open-malformed.trace",
+            "open-long.trace",
+        ],
+    );
     narrow(rt, "document-01.trace");
     narrow(rt, "empty.trace");
     narrow(rt, "newline.trace");
-    some(rt, "random-1.trace");
-    some(rt, "malformed.trace");
+    file::<4096>(rt, Output::Answers, "random-1.trace");
+    file::<4096>(rt, Output::Answers, "malformed.trace");
 }
 
 fn transfers(rt: &(impl Files + Print)) {
-    all(rt, "master-write.trace");
-    all(rt, "slave-receive.trace");
-    all(rt, "synchronous-transfer.trace");
-    all(rt, "arbitration-loss.trace");
-    all(rt, "random-1.trace");
-    all(rt, "random-2.trace");
-    all(rt, "random-3.trace");
-    all(rt, "hostile.trace");
+    files(
+        rt,
+        Output::Answers,
+        &[
+            "master-write.trace",
+            "slave-receive.trace",
+            "synchronous-transfer.trace",
+            "arbitration-loss.trace",
+            "random-1.trace",
+            "random-2.trace",
+            "random-3.trace",
+            "hostile.trace",
+        ],
+    );
 }
 
 fn reports(rt: &(impl Files + Print)) {
-    busy(rt, "empty.trace");
-    busy(rt, "times.trace");
-    busy(rt, "malformed.trace");
-    busy(rt, "master-write.trace");
-    busy(rt, "random-1.trace");
+    files(
+        rt,
+        Output::Reports,
+        &[
+            "empty.trace",
+            "times.trace",
+            "malformed.trace",
+            "master-write.trace",
+            "random-1.trace",
+        ],
+    );
 }
 
 fn signals(rt: &(impl Files + Print)) {
-    wave(rt, "empty.trace");
-    wave(rt, "document-01.trace");
-    wave(rt, "first-time-0.trace");
-    wave(rt, "times.trace");
-    wave(rt, "malformed.trace");
-    wave(rt, "refused-7.trace");
-    wave(rt, "arbitration-loss.trace");
+    files(
+        rt,
+        Output::Waves,
+        &[
+            "empty.trace",
+            "document-01.trace",
+            "first-time-0.trace",
+            "times.trace",
+            "malformed.trace",
+            "refused-7.trace",
+            "arbitration-loss.trace",
+        ],
+    );
 }
 
 fn main(rt: HostRuntime) {
