@@ -1,9 +1,9 @@
 -- Laws: eight bits sampled high first are the byte, and so are eight bits sent high first.
 use Rattle.std.specs.Prelude.{◌≡◌, ℕ, zero, suc, ◌+◌, ◌/◌, ◌<◌, Bool, true, false, cond, not, List, [], ◌∷◌, ◌==◌, nat_eq, refl}
 use Rattle.std.proofs.Common.{ap, ap₂, ◌∙◌, arith, eqb-true}
-use Rattle.std.specs.Bool.{beq}
+use Rattle.std.proofs.lemmas.Bool.{agree_below, agree_below_at}
 use Rattle.bus.specs.Bus.{first_bit, is_acknowledge, shift_in}
-use Rattle.sensor.specs.Below.{all, all_below, same_truth}
+use Rattle.sensor.specs.Below.{all, all_below}
 use Rattle.sensor.specs.Bytes.{BytesComeIn, BytesGoOut, OwnAddressOnly, fall, gather, pointed, ready, spell}
 use Rattle.sensor.specs.Edge.{clocked_of, edge_of}
 use Rattle.sensor.specs.Falling.{acknowledge_of, falling_of, follow_of, heard_of, launch_of, send_of}
@@ -20,7 +20,7 @@ gather_spell byte h = eqb-true (gather 0 (spell 8 byte)) byte (all_below (λ (b 
 
 pub bytes_come_in_lem : BytesComeIn
 unfolding edge_of clocked_of rising_of falling_of sampled_of
-bytes_come_in_lem k p byte z w t prepared h = ap (λ (b : ℕ). whole_of k b t w (pointed p)) (gather_spell byte h)
+bytes_come_in_lem k p byte z w t prepared h = ap (λ (b : ℕ). whole_of k b (ready w prepared t) (pointed p)) (gather_spell byte h)
 
 -- ## The acknowledge of an address
 
@@ -32,10 +32,10 @@ own_bytes s = (refl, refl)
 pub own_address_only_lem : OwnAddressOnly
 unfolding edge_of clocked_of falling_of acknowledge_of whole_of addressed_of
 own_address_only_lem p byte z a b w t prepared h =
-    ap (λ (e : Edge). is_acknowledge (not (fall a b (ready w prepared) t e.state).state.low)) (bytes_come_in_lem receive.Address p byte z w t prepared h)
+    ap (λ (e : Edge). is_acknowledge (not (fall a b (ready w prepared t) e.state).state.low)) (bytes_come_in_lem receive.Address p byte z w t prepared h)
     ∙ by (byte / 2 == own_address)
   where
-    by : (own : Bool) → is_acknowledge (not (fall a b (ready w prepared) t (cond own (acknowledging (asked_by byte) (pointed p)) (pointed p))).state.low) ≡ own
+    by : (own : Bool) → is_acknowledge (not (fall a b (ready w prepared t) (cond own (acknowledging (asked_by byte) (pointed p)) (pointed p))).state.low) ≡ own
     by true = refl
     by false = refl
 
@@ -59,7 +59,7 @@ shows byte (suc n) = not (not (sent_bit (suc n) byte))
 -- the bits that are shown are those of the byte, in each of 256
 abbrev right : ℕ → Bool
 unfolding sent_bit
-right byte = all (λ (n : ℕ). beq (shows byte n) (bit_at n byte)) 8
+right byte = agree_below (shows byte) (λ (n : ℕ). bit_at n byte) 8
 
 right_each : all right 256 ≡ true
 unfolding sent_bit
@@ -75,7 +75,7 @@ bits_shown : (byte : ℕ) → byte < 256 → listed (shows byte) 0 8 ≡ spell 8
 unfolding sent_bit
 bits_shown byte h =
     listed_alike (shows byte) (λ (n : ℕ). bit_at n byte) 8
-    (λ n l. same_truth (shows byte n) (bit_at n byte) (all_below (λ (m : ℕ). beq (shows byte m) (bit_at m byte)) 8 (all_below right 256 right_each byte h) n l))
+    (λ n l. agree_below_at (shows byte) (λ (m : ℕ). bit_at m byte) 8 n (all_below right 256 right_each byte h) l)
     0 8 refl
 
 pub bytes_go_out_lem : BytesGoOut

@@ -1,32 +1,15 @@
 -- Laws: a test that holds of every number below a limit, by computing it of each; and what so many bits hold.
-use Rattle.std.specs.Prelude.{◌≡◌, ℕ, zero, suc, ◌*◌, ◌%◌, ◌^◌, ◌<◌, Bool, true, false, cond, ◌&&◌, ltb, nat_eq, nat_lt, refl}
-use Rattle.std.proofs.Common.{ap, sym, subst, ⊎_elim, le_of_suc-le-suc, not-suc-le-zero, eq-or-lt_of_le, arith, eqb-true, ltb-true}
-use Rattle.std.specs.Bool.{beq}
+use Rattle.std.specs.Prelude.{◌≡◌, ℕ, ◌*◌, ◌%◌, ◌^◌, ◌<◌, Bool, true, false, ◌&&◌, ltb, nat_eq, nat_lt, refl}
+use Rattle.std.proofs.Common.{ap, eqb-true, ltb-true}
+use Rattle.std.proofs.lemmas.Bool.{agree_below, agree_below_at}
 use Rattle.sensor.specs.State.{fits_in}
-
-pub both : (a b : Bool) → (a && b) ≡ true → (a ≡ true) × (b ≡ true)
-both true true e = (refl, refl)
-both true false e = (refl, e)
-both false b e = (e, absurd (omega (arith, ap {B = ℕ} (λ (t : Bool). cond t 1 0) e)))
-
-pub same_truth : (a b : Bool) → beq a b ≡ true → a ≡ b
-same_truth true true e = refl
-same_truth true false e = sym e
-same_truth false true e = e
-same_truth false false e = refl
 
 -- the test holds of every number below n
 abbrev pub all : (ℕ → Bool) → ℕ → Bool
-all f zero = true
-all f (suc n) = f n && all f n
+all f n = agree_below f (λ (m : ℕ). true) n
 
 pub all_below : (f : ℕ → Bool) (n : ℕ) → all f n ≡ true → (k : ℕ) → k < n → f k ≡ true
-all_below f zero e k h = absurd (not-suc-le-zero h)
-all_below f (suc n) e k h =
-    ⊎_elim
-    (λ i. subst (λ (j : ℕ). f j ≡ true) (sym i) (both (f n) (all f n) e).0)
-    (λ l. all_below f n (both (f n) (all f n) e).1 k l)
-    (eq-or-lt_of_le (le_of_suc-le-suc h))
+all_below f n e k h = agree_below_at f (λ (m : ℕ). true) n k e h
 
 -- a power of two, as a shift has it
 same_power : (k : ℕ) → k < 8 → 1 * 2 ^ (k % 8) % 2 ^ 16 ≡ 2 ^ k

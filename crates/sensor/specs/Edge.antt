@@ -1,36 +1,42 @@
 -- Definitions: an edge, and what it asks of the rest of the sensor. Numbers in brackets are lines of devices/bma150/i2c.rs.
-use Rattle.std.specs.Prelude.{ℕ, Bool, true, false, cond, not, ◌&&◌, ◌||◌, ◌==◌}
+use Rattle.std.specs.Prelude.{ℕ, Bool, true, false, cond, not, ◌&&◌, ◌||◌, ◌==◌, Option, Some, None, Ok}
 use Rattle.bus.specs.Bus.{is_start, is_stop}
 use Rattle.bus.specs.declared.Levels.{Levels}
 use Rattle.sensor.specs.Falling.{falling_of}
 use Rattle.sensor.specs.Rising.{rising_of}
 use Rattle.sensor.specs.Leaving.{plain}
 use Rattle.sensor.specs.State.{abort_of, is_acknowledge, set_phase}
-use Rattle.sensor.specs.declared.Answer.TheVariants as answer
+use Rattle.sensor.specs.declared.Change.{Change}
 use Rattle.sensor.specs.declared.Edge.{Edge}
 use Rattle.sensor.specs.declared.Effect.{Effect}
-use Rattle.sensor.specs.declared.Effect.TheVariants as effect
 use Rattle.sensor.specs.declared.Following.{Following}
 use Rattle.sensor.specs.declared.Following.TheVariants as following
-use Rattle.sensor.specs.declared.Heard.{Heard}
-use Rattle.sensor.specs.declared.Heard.TheVariants as heard
 use Rattle.sensor.specs.declared.Outside.{Outside}
 use Rattle.sensor.specs.declared.Phase.{Phase}
 use Rattle.sensor.specs.declared.Phase.TheVariants as phase
 use Rattle.sensor.specs.declared.Receive.{Receive}
 use Rattle.sensor.specs.declared.Receive.TheVariants as receive
 use Rattle.sensor.specs.declared.State.{State}
-use Rattle.sensor.specs.declared.Tx.{Tx}
-use Rattle.sensor.specs.declared.Tx.TheVariants as tx
-use Rattle.sensor.specs.declared.Written.TheVariants as written
+
+-- the levels before and after
+abbrev pub change : Levels → Levels → Change
+change old new = record { previous = old; current = new }
 
 -- ## Edges of SCL (171, 223)
 
-abbrev pub rises_at : Levels → Levels → Bool
-rises_at old new = not old.scl && new.scl
+abbrev pub rises_at : Change → Bool
+rises_at c = not c.previous.scl && c.current.scl
 
-abbrev pub falls_at : Levels → Levels → Bool
-falls_at old new = old.scl && not new.scl
+abbrev pub falls_at : Change → Bool
+falls_at c = c.previous.scl && not c.current.scl
+
+-- ## Conditions of UM10204, of a change
+
+abbrev pub starts_at : Change → Bool
+starts_at c = is_start c.previous c.current
+
+abbrev pub stops_at : Change → Bool
+stops_at c = is_stop c.previous c.current
 
 -- ## The edge
 
@@ -40,31 +46,31 @@ begun_of starts s = cond starts (set_phase (phase.Receive receive.Address) (abor
 
 -- a start or a stop: tx, the pair and the shadow are dropped (159)
 abbrev pub condition_of : Bool → State → Edge
-condition_of starts s = record { answer = answer.Changed false; effect = effect.NoEffect; cleared = true; tx = tx.NoByte; state = begun_of starts s }
+condition_of starts s = record { answer = Ok false; effect = None; cleared = true; tx = None; state = begun_of starts s }
 
 -- SCL rises, falls, or stays (171, 223)
-unfoldable pub clocked_of : State → Tx → Levels → Levels → Outside → Edge
-clocked_of s tx old new o =
-    cond (rises_at old new) (rising_of s.phase tx new.sda o.written s)
-    (cond (falls_at old new) (falling_of s.phase tx o.prepared s) (plain tx s))
+unfoldable pub clocked_of : State → Change → Outside → Edge
+clocked_of s c o =
+    cond (rises_at c) (rising_of s.phase c.current.sda o s)
+    (cond (falls_at c) (falling_of s.phase o s) (plain o.tx s))
 
 -- `i2c_pins` (146): blocked; a start or a stop; a quiet time, which lets an acknowledge end; a clock
-unfoldable pub edge_of : State → Tx → Levels → Levels → Outside → Edge
-edge_of s tx old new o =
-    cond o.blocked (plain tx (abort_of s))
-    (cond (is_start old new || is_stop old new) (condition_of (is_start old new && not o.quiet) s)
-    (cond (o.quiet && not (is_acknowledge s.phase)) (plain tx (abort_of s))
-    (clocked_of s tx old new o)))
+unfoldable pub edge_of : State → Change → Outside → Edge
+edge_of s c o =
+    cond o.blocked (plain o.tx (abort_of s))
+    (cond (starts_at c || stops_at c) (condition_of (starts_at c && not o.quiet) s)
+    (cond (o.quiet && not (is_acknowledge s.phase)) (plain o.tx (abort_of s))
+    (clocked_of s c o)))
 
 -- ## What is asked before the edge
 
--- what the rest of the sensor says, whatever a write would answer and which byte would be prepared
+-- what the rest of the sensor says, whatever a write would answer, which byte would be prepared and which is held
 abbrev pub unasked : Bool → Bool → Outside
-unasked blocked quiet = record { blocked = blocked; quiet = quiet; written = written.Done false; prepared = tx.NoByte }
+unasked blocked quiet = record { blocked = blocked; quiet = quiet; written = Ok false; prepared = None; tx = None }
 
 -- what an edge asks of the rest of the sensor; that it doesn't depend on the answers is a law, `effect_alone`
-unfoldable pub effect_of : State → Levels → Levels → Bool → Bool → Effect
-effect_of s old new blocked quiet = (edge_of s tx.NoByte old new (unasked blocked quiet)).effect
+unfoldable pub effect_of : State → Change → Bool → Bool → Option Effect
+effect_of s c blocked quiet = (edge_of s c (unasked blocked quiet)).effect
 
 abbrev pub is_data : Receive → Bool
 is_data receive.Address = false
@@ -77,9 +83,9 @@ is_read_next following.Data = false
 is_read_next following.Read = true
 is_read_next following.Idle = false
 
-abbrev pub acknowledged_by : Heard → Bool
-acknowledged_by heard.NotYet = false
-acknowledged_by (heard.Was b) = b
+abbrev pub acknowledged_by : Option Bool → Bool
+acknowledged_by None = false
+acknowledged_by (Some b) = b
 
 -- a rise at which a byte that is sent is first read, or a byte of data is whole (125)
 unfoldable pub takes_at_rise : Phase → ℕ → Bool
@@ -98,6 +104,6 @@ prepares_at_fall (phase.Read n) = false
 prepares_at_fall (phase.MasterAcknowledge h) = acknowledged_by h
 
 -- whether the edge wants the conversion brought up to now first (`i2c_pins_at`, 115)
-unfoldable pub consumes_of : State → Levels → Levels → Bool → Bool → Bool
-consumes_of s old new blocked quiet =
-    not blocked && not quiet && (rises_at old new && takes_at_rise s.phase s.bits || falls_at old new && prepares_at_fall s.phase)
+unfoldable pub consumes_of : State → Change → Bool → Bool → Bool
+consumes_of s c blocked quiet =
+    not blocked && not quiet && (rises_at c && takes_at_rise s.phase s.bits || falls_at c && prepares_at_fall s.phase)

@@ -3,18 +3,17 @@
 use Rattle.std.specs.Prelude.{◌≡◌, Bool, true, false, not, List, [], ◌∷◌}
 use Rattle.bus.specs.Bus.{levels}
 use Rattle.bus.specs.declared.Levels.{Levels}
-use Rattle.sensor.specs.Edge.{edge_of}
+use Rattle.sensor.specs.Edge.{change, edge_of}
 use Rattle.sensor.specs.State.{abort_of, fresh_state, validate_of}
 use Rattle.sensor.specs.declared.Outside.{Outside}
 use Rattle.sensor.specs.declared.Phase.{Phase}
 use Rattle.sensor.specs.declared.Phase.TheVariants as phase
 use Rattle.sensor.specs.declared.State.{State}
-use Rattle.sensor.specs.declared.Tx.{Tx}
 
--- an edge: the byte to send as the sensor holds it then, SDA as the wires settled at before it, the levels now, and what the rest of
--- the sensor says; or an abort
+-- an edge: SDA as the wires settled at before it, the levels now, and what the rest of the sensor says, the byte to send as it holds it
+-- then among it; or an abort
 pub data Step : Type 0 where
-  edge : Tx → Bool → Levels → Outside → Step
+  edge : Bool → Levels → Outside → Step
   abort : Step
 
 -- SCL as it is, whether the rest of the sensor was available when the parser last moved, and the parser's state
@@ -25,8 +24,8 @@ pub record Reached : Type 0 where
 
 -- the previous SCL of an edge is the SCL before
 abbrev pub after : Step → Reached → Reached
-after (edge tx sda new o) r =
-    record { scl = new.scl; available = not o.blocked; state = (edge_of r.state tx (levels r.scl sda) new o).state }
+after (edge sda new o) r =
+    record { scl = new.scl; available = not o.blocked; state = (edge_of r.state (change (levels r.scl sda) new) o).state }
 after abort r = record { scl = r.scl; available = false; state = abort_of r.state }
 
 abbrev pub run : List Step → Reached → Reached

@@ -1,13 +1,11 @@
 -- Definitions: the parser's state, its parts and what is asked of it. Numbers in brackets are lines of devices/bma150/i2c.rs.
-use Rattle.std.specs.Prelude.{ℕ, ◌+◌, ◌-◌, ◌*◌, ◌%◌, ◌^◌, Bool, true, false, not, ◌&&◌, ◌||◌, ◌==◌, nat_lt}
+use Rattle.std.specs.Prelude.{ℕ, ◌+◌, ◌-◌, ◌*◌, ◌%◌, ◌^◌, Bool, true, false, not, ◌&&◌, ◌||◌, ◌==◌, nat_lt, Option, Some, None}
 use Rattle.std.specs.Bool.{beq}
 use Rattle.bus.specs.Bus.{first_bit}
 use Rattle.sensor.specs.declared.Following.{Following}
 use Rattle.sensor.specs.declared.Phase.{Phase}
 use Rattle.sensor.specs.declared.Phase.TheVariants as phase
 use Rattle.sensor.specs.declared.State.{State}
-use Rattle.sensor.specs.declared.Tx.{Tx}
-use Rattle.sensor.specs.declared.Tx.TheVariants as tx
 
 -- ## The state with some parts set anew
 
@@ -88,9 +86,9 @@ validate_of available s = nat_lt s.pointer 128 && (available || is_idle s.phase)
 -- ## The byte to send
 
 -- the byte that goes over the line: ff where none was prepared (246, 259)
-abbrev pub sent : Tx → ℕ
-sent tx.NoByte = 0xff
-sent (tx.Byte b) = b
+abbrev pub sent : Option ℕ → ℕ
+sent None = 0xff
+sent (Some b) = b
 
 -- the bit that goes over the line after n others: the first of what is left of the byte (246)
 unfoldable pub sent_bit : ℕ → ℕ → Bool

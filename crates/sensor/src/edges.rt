@@ -1,29 +1,44 @@
 // What an edge leaves, which edges there are, and what starts, stops and clocks bring.
 ghost use Rattle.std.specs.Prelude.{◌≡◌};
-ghost use Rattle.sensor.specs.Edge.{acknowledged_by, begun_of, clocked_of, condition_of, falls_at, is_data, is_read_next, prepares_at_fall, rises_at, takes_at_rise};
+ghost use Rattle.sensor.specs.Edge.{begun_of, clocked_of, condition_of, falls_at, is_data, is_read_next, prepares_at_fall, rises_at, starts_at, stops_at, takes_at_rise};
 ghost use Rattle.sensor.specs.Leaving.{asking, plain};
 
-use super::{Answer, Edge, Effect, Following, Heard, Outside, Phase, Receive, State, Tx};
-use bus::Levels;
+use super::{Change, Edge, Effect, Following, Outside, Phase, Receive, State};
 
-pub(crate) fn rises(previous: Levels, current: Levels) -> bool
-    ensures { result ≡ rises_at previous current }
-{
-    !previous.scl & current.scl
-}
+impl Change {
+    // SCL rises.
+    pub(crate) fn rises(self) -> bool
+        ensures { result ≡ rises_at self }
+    {
+        !self.previous.scl & self.current.scl
+    }
 
-pub(crate) fn falls(previous: Levels, current: Levels) -> bool
-    ensures { result ≡ falls_at previous current }
-{
-    previous.scl & !current.scl
+    // SCL falls.
+    pub(crate) fn falls(self) -> bool
+        ensures { result ≡ falls_at self }
+    {
+        self.previous.scl & !self.current.scl
+    }
+
+    pub(crate) fn starts(self) -> bool
+        ensures { result ≡ starts_at self }
+    {
+        bus::is_start(self.previous, self.current)
+    }
+
+    pub(crate) fn stops(self) -> bool
+        ensures { result ≡ stops_at self }
+    {
+        bus::is_stop(self.previous, self.current)
+    }
 }
 
 // Nothing is refused.
-pub(crate) fn asking(effect: Effect, state: State, tx: Tx) -> Edge
+pub(crate) fn asking(effect: Option<Effect>, state: State, tx: Option<u8>) -> Edge
     ensures { result ≡ asking effect tx state }
 {
     Edge {
-        answer: Answer::Changed(false),
+        answer: Ok(false),
         effect,
         cleared: false,
         tx,
@@ -32,46 +47,10 @@ pub(crate) fn asking(effect: Effect, state: State, tx: Tx) -> Edge
 }
 
 // Nothing is asked either.
-pub(crate) fn plain(state: State, tx: Tx) -> Edge
+pub(crate) fn plain(state: State, tx: Option<u8>) -> Edge
     ensures { result ≡ plain tx state }
 {
-    asking(Effect::NoEffect, state, tx)
-}
-
-impl Receive {
-    fn is_data(self) -> bool
-        ensures { result ≡ is_data self }
-    {
-        match self {
-            Receive::Address => false,
-            Receive::Control => false,
-            Receive::Data => true,
-        }
-    }
-}
-
-impl Following {
-    fn is_read(self) -> bool
-        ensures { result ≡ is_read_next self }
-    {
-        match self {
-            Following::Control => false,
-            Following::Data => false,
-            Following::Read => true,
-            Following::Idle => false,
-        }
-    }
-}
-
-impl Heard {
-    fn acknowledged(self) -> bool
-        ensures { result ≡ acknowledged_by self }
-    {
-        match self {
-            Heard::NotYet => false,
-            Heard::Was(acknowledged) => acknowledged,
-        }
-    }
+    asking(None, state, tx)
 }
 
 impl Phase {
@@ -81,14 +60,9 @@ impl Phase {
         ensures { result ≡ takes_at_rise self bits }
     {
         match self {
-            Phase::Idle => false,
-            Phase::Receive(kind) => kind.is_data() & (bits == 7),
-            Phase::Acknowledge {
-                following: _,
-                edge: _,
-            } => false,
+            Phase::Receive(kind) => (kind == Receive::Data) & (bits == 7),
             Phase::Read { sampled } => sampled == 0,
-            Phase::MasterAcknowledge(_) => false,
+            _ => false,
         }
     }
 
@@ -98,11 +72,9 @@ impl Phase {
         ensures { result ≡ prepares_at_fall self }
     {
         match self {
-            Phase::Idle => false,
-            Phase::Receive(_) => false,
-            Phase::Acknowledge { following, edge } => following.is_read() & (edge == 2),
-            Phase::Read { sampled: _ } => false,
-            Phase::MasterAcknowledge(heard) => heard.acknowledged(),
+            Phase::Acknowledge { following, edge } => (following == Following::Read) & (edge == 2),
+            Phase::MasterAcknowledge(heard) => heard == Some(true),
+            _ => false,
         }
     }
 }
@@ -124,27 +96,22 @@ impl State {
         ensures { result ≡ condition_of starts self }
     {
         Edge {
-            answer: Answer::Changed(false),
-            effect: Effect::NoEffect,
             cleared: true,
-            tx: Tx::NoByte,
-            state: self.begun(starts),
+            ..plain(self.begun(starts), None)
         }
     }
 
     // SCL rises, falls, or stays.
     #[tactic(auto, unfolding(crate::specs::Edge::clocked_of))]
-    pub(crate) fn clocked(self, tx: Tx, previous: Levels, current: Levels, outside: Outside) -> Edge
-        ensures { result ≡ clocked_of self tx previous current outside }
+    pub(crate) fn clocked(self, change: Change, outside: Outside) -> Edge
+        ensures { result ≡ clocked_of self change outside }
     {
-        if rises(previous, current) {
-            let written = outside.written;
-            return self.rising(tx, current.sda, written);
+        if change.rises() {
+            return self.rising(change.current.sda, outside);
         }
-        if falls(previous, current) {
-            let prepared = outside.prepared;
-            return self.falling(tx, prepared);
+        if change.falls() {
+            return self.falling(outside);
         }
-        plain(self, tx)
+        plain(self, outside.tx)
     }
 }

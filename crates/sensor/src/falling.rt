@@ -4,16 +4,13 @@ ghost use Rattle.sensor.specs.Falling.{acknowledge_of, falling_of, follow_of, he
 ghost use Rattle.sensor.specs.State.{sent, sent_bit};
 
 use super::edges::{asking, plain};
-use super::{Edge, Effect, Following, Heard, Phase, Receive, State, Tx};
+use super::{Edge, Effect, Following, Outside, Phase, Receive, State};
 
 // The byte that goes over the line; where none was prepared SDA stays released.
-fn sent(tx: Tx) -> u8
+fn sent(tx: Option<u8>) -> u8
     ensures { result ≡ sent tx }
 {
-    match tx {
-        Tx::NoByte => 0xff,
-        Tx::Byte(byte) => byte,
-    }
+    tx.unwrap_or(0xff)
 }
 
 // The bit of a byte that goes over the line after so many others.
@@ -27,7 +24,7 @@ fn sent_bit(sampled: u8, byte: u8) -> bool
 impl State {
     // The next byte is prepared, and its first bit shown.
     #[tactic(auto, unfolding(crate::specs::Falling::launch_of))]
-    fn launched(self, prepared: Tx) -> Edge
+    fn launched(self, prepared: Option<u8>) -> Edge
         ensures { result ≡ launch_of prepared self }
     {
         let low = !bus::first_bit(sent(prepared));
@@ -36,26 +33,26 @@ impl State {
             low,
             ..self
         };
-        asking(Effect::Prepare(self.pointer), shown, prepared)
+        asking(Some(Effect::Prepare(self.pointer)), shown, prepared)
     }
 
     // The acknowledge is over.
     #[tactic(auto, unfolding(crate::specs::Falling::follow_of))]
-    fn follow(self, following: Following, tx: Tx, prepared: Tx) -> Edge
-        ensures { result ≡ follow_of following tx prepared self }
+    fn follow(self, following: Following, outside: Outside) -> Edge
+        ensures { result ≡ follow_of following outside self }
     {
         match following {
-            Following::Control => plain(self.at(Phase::Receive(Receive::Control)), tx),
-            Following::Data => plain(self.at(Phase::Receive(Receive::Data)), tx),
-            Following::Read => self.launched(prepared),
-            Following::Idle => plain(self.at(Phase::Idle), tx),
+            Following::Control => plain(self.at(Phase::Receive(Receive::Control)), outside.tx),
+            Following::Data => plain(self.at(Phase::Receive(Receive::Data)), outside.tx),
+            Following::Read => self.launched(outside.prepared),
+            Following::Idle => plain(self.at(Phase::Idle), outside.tx),
         }
     }
 
     // SDA is pulled from the eighth fall to the ninth.
     #[tactic(auto, unfolding(crate::specs::Falling::acknowledge_of))]
-    fn acknowledge(mut self, following: Following, edge: u8, tx: Tx, prepared: Tx) -> Edge
-        ensures { result ≡ acknowledge_of following edge tx prepared self }
+    fn acknowledge(mut self, following: Following, edge: u8, outside: Outside) -> Edge
+        ensures { result ≡ acknowledge_of following edge outside self }
     {
         let pulls = edge == 0;
         if pulls {
@@ -65,26 +62,26 @@ impl State {
                     low: true,
                     ..self
                 },
-                tx,
+                outside.tx,
             );
         }
         let over = edge == 2;
         if over {
             self.low = false;
-            return self.follow(following, tx, prepared);
+            return self.follow(following, outside);
         }
-        plain(self, tx)
+        plain(self, outside.tx)
     }
 
     // The next bit is shown; after the last one SDA is released for the master's acknowledge.
     #[tactic(auto, unfolding(crate::specs::Falling::send_of))]
-    fn send(self, sampled: u8, tx: Tx) -> State
+    fn send(self, sampled: u8, tx: Option<u8>) -> State
         ensures { result ≡ send_of sampled tx self }
     {
         let through = sampled == 8;
         if through {
             return State {
-                phase: Phase::MasterAcknowledge(Heard::NotYet),
+                phase: Phase::MasterAcknowledge(None),
                 low: false,
                 ..self
             };
@@ -97,34 +94,26 @@ impl State {
 
     // The master has acknowledged, or not.
     #[tactic(auto, unfolding(crate::specs::Falling::heard_of))]
-    fn heard(self, heard: Heard, tx: Tx, prepared: Tx) -> Edge
-        ensures { result ≡ heard_of heard tx prepared self }
+    fn heard(self, heard: Option<bool>, outside: Outside) -> Edge
+        ensures { result ≡ heard_of heard outside self }
     {
         match heard {
-            Heard::NotYet => plain(self, tx),
-            Heard::Was(acknowledged) => {
-                if acknowledged {
-                    self.launched(prepared)
-                } else {
-                    plain(self.abort(), tx)
-                }
-            }
+            None => plain(self, outside.tx),
+            Some(true) => self.launched(outside.prepared),
+            Some(false) => plain(self.abort(), outside.tx),
         }
     }
 
     #[tactic(auto, unfolding(crate::specs::Falling::falling_of))]
-    pub(crate) fn falling(self, tx: Tx, prepared: Tx) -> Edge
-        ensures { result ≡ falling_of self.phase tx prepared self }
+    pub(crate) fn falling(self, outside: Outside) -> Edge
+        ensures { result ≡ falling_of self.phase outside self }
     {
         let phase = self.phase;
         match phase {
-            Phase::Idle => plain(self, tx),
-            Phase::Receive(_) => plain(self, tx),
-            Phase::Acknowledge { following, edge } => self.acknowledge(
-                following, edge, tx, prepared,
-            ),
-            Phase::Read { sampled } => plain(self.send(sampled, tx), tx),
-            Phase::MasterAcknowledge(heard) => self.heard(heard, tx, prepared),
+            Phase::Idle | Phase::Receive(_) => plain(self, outside.tx),
+            Phase::Acknowledge { following, edge } => self.acknowledge(following, edge, outside),
+            Phase::Read { sampled } => plain(self.send(sampled, outside.tx), outside.tx),
+            Phase::MasterAcknowledge(heard) => self.heard(heard, outside),
         }
     }
 }

@@ -13,10 +13,10 @@ ghost use Rattle.sensor.specs.Edge.{consumes_of, effect_of, edge_of};
 ghost use Rattle.sensor.specs.State.{abort_of, effect_edges_of, fresh_state, is_idle_of, validate_of};
 
 use bus::Levels;
-use edges::{falls, plain, rises};
+use edges::plain;
 
 // Which byte is on its way in.
-#[derive(Clone, Copy)]
+#[derive(Clone, Copy, PartialEq, Eq)]
 pub enum Receive {
     Address,
     Control,
@@ -24,7 +24,7 @@ pub enum Receive {
 }
 
 // What comes after an acknowledge.
-#[derive(Clone, Copy)]
+#[derive(Clone, Copy, PartialEq, Eq)]
 pub enum Following {
     Control,
     Data,
@@ -32,25 +32,21 @@ pub enum Following {
     Idle,
 }
 
-// Whether the master acknowledged, once the ninth clock of a byte that was sent has risen.
-#[derive(Clone, Copy)]
-pub enum Heard {
-    NotYet,
-    Was(bool),
-}
-
-#[derive(Clone, Copy)]
+#[derive(Clone, Copy, Default, PartialEq, Eq)]
 pub enum Phase {
+    #[default]
     Idle,
     Receive(Receive),
-    // 0: the eighth clock has risen; 1: SDA is pulled; 2: the ninth clock has risen.
+    // 0: the eighth clock has risen; 1: SDA is pulled; 2: the ninth clock has risen. A number and no enum, since a saved state comes
+    // with any byte here, which `validate` refuses from 3 on (`sound_of`).
     Acknowledge { following: Following, edge: u8 },
     Read { sampled: u8 },
-    MasterAcknowledge(Heard),
+    // Whether the master acknowledged, once the ninth clock of a byte that was sent has risen.
+    MasterAcknowledge(Option<bool>),
 }
 
 // The parser. It pulls SDA where `low`, and SCL never.
-#[derive(Clone, Copy)]
+#[derive(Clone, Copy, Default, PartialEq, Eq)]
 pub struct State {
     pub phase: Phase,
     pub pointer: u8,
@@ -59,54 +55,44 @@ pub struct State {
     pub low: bool,
 }
 
-// The byte to send, `tx`, where one was prepared.
+// The levels of the wires before an edge, those that they settled at, and after it, before the sensor's own effect.
 #[derive(Clone, Copy)]
-pub enum Tx {
-    NoByte,
-    Byte(u8),
-}
-
-// What `write_register` answers: a refusal and its number, or that it is done and whether a quiet time runs after it.
-#[derive(Clone, Copy)]
-pub enum Written {
-    Refused(u8),
-    Done(bool),
+pub struct Change {
+    pub previous: Levels,
+    pub current: Levels,
 }
 
 // What the rest of the sensor says at an edge: whether it is blocked (selected for SPI, unpowered or not ready), whether a quiet
-// time runs, what a write would answer and which byte would be prepared.
+// time runs, what a write would answer (whether a quiet time runs after it), which byte would be prepared, if any, and the byte to
+// send, `tx`, where one was.
 #[derive(Clone, Copy)]
 pub struct Outside {
     pub blocked: bool,
     pub quiet: bool,
-    pub written: Written,
-    pub prepared: Tx,
+    // The number of a refusal comes from the rest of the sensor, through C, and goes out as it came in: no enum has all of them.
+    pub written: Result<bool, u8>,
+    pub prepared: Option<u8>,
+    pub tx: Option<u8>,
 }
 
 // What an edge asks of the rest of the sensor: to write a byte at a pointer, to prepare the byte there, or to take note that it is
 // being read.
 #[derive(Clone, Copy)]
 pub enum Effect {
-    NoEffect,
     Write(u8, u8),
     Prepare(u8),
     Acknowledge(u8),
 }
 
-// The write's refusal, or whether a deadline may have changed.
-#[derive(Clone, Copy)]
-pub enum Answer {
-    Refused(u8),
-    Changed(bool),
-}
-
-// What an edge leaves. Where `cleared`, the rest of the sensor drops the pair and the shadow of a read (`tx_pair`, `tx_shadow`).
+// What an edge leaves: the write's refusal by its number, as `Outside` hands it in, or whether a deadline may have changed; what is
+// asked, if anything; and the byte to send, `tx`, where one was prepared. Where `cleared`, the rest of the sensor drops the pair and
+// the shadow of a read (`tx_pair`, `tx_shadow`).
 #[derive(Clone, Copy)]
 pub struct Edge {
-    pub answer: Answer,
-    pub effect: Effect,
+    pub answer: Result<bool, u8>,
+    pub effect: Option<Effect>,
     pub cleared: bool,
-    pub tx: Tx,
+    pub tx: Option<u8>,
     pub state: State,
 }
 
@@ -115,13 +101,7 @@ impl State {
     pub fn new() -> State
         ensures { result ≡ fresh_state }
     {
-        State {
-            phase: Phase::Idle,
-            pointer: 0,
-            bits: 0,
-            shift: 0,
-            low: false,
-        }
+        State::default()
     }
 
     // The levels that the sensor leaves the wires: SCL is released, and SDA pulled where `low`.
@@ -142,13 +122,8 @@ impl State {
         let phase = self.phase;
         match phase {
             Phase::Idle => 16,
-            Phase::Receive(_) => ((527 - 2 * (self.bits as u16)) % 256) as u8,
-            Phase::Acknowledge {
-                following: _,
-                edge: _,
-            } => 1,
-            Phase::Read { sampled: _ } => 1,
-            Phase::MasterAcknowledge(_) => 1,
+            Phase::Receive(_) => 8u8.wrapping_sub(self.bits).wrapping_mul(2).wrapping_sub(1),
+            _ => 1,
         }
     }
 
@@ -156,19 +131,15 @@ impl State {
     pub fn idle(self) -> bool
         ensures { result ≡ is_idle_of self }
     {
-        let phase = self.phase;
-        phase.is_idle() & (self.bits == 0) & (self.shift == 0) & !self.low
+        self == self.abort()
     }
 
     pub fn abort(self) -> State
         ensures { result ≡ abort_of self }
     {
         State {
-            phase: Phase::Idle,
             pointer: self.pointer,
-            bits: 0,
-            shift: 0,
-            low: false,
+            ..State::new()
         }
     }
 
@@ -183,54 +154,48 @@ impl State {
 
     // Whether an edge wants the conversion brought up to the present time first.
     #[tactic(auto, unfolding(crate::specs::Edge::consumes_of))]
-    pub fn consumes_conversion(
-        self,
-        previous: Levels,
-        current: Levels,
-        blocked: bool,
-        quiet: bool,
-    ) -> bool
-        ensures { result ≡ consumes_of self previous current blocked quiet }
+    pub fn consumes_conversion(self, change: Change, blocked: bool, quiet: bool) -> bool
+        ensures { result ≡ consumes_of self change blocked quiet }
     {
         let phase = self.phase;
-        let up = rises(previous, current) & phase.takes_at_rise(self.bits);
-        let down = falls(previous, current) & phase.prepares_at_fall();
+        let up = change.rises() & phase.takes_at_rise(self.bits);
+        let down = change.falls() & phase.prepares_at_fall();
         !blocked & !quiet & (up | down)
     }
 
     // What an edge asks of the rest of the sensor, which doesn't depend on what that will answer.
     #[tactic(auto, unfolding(crate::specs::Edge::effect_of))]
-    pub fn effect_at(self, previous: Levels, current: Levels, blocked: bool, quiet: bool) -> Effect
-        ensures { result ≡ effect_of self previous current blocked quiet }
+    pub fn effect_at(self, change: Change, blocked: bool, quiet: bool) -> Option<Effect>
+        ensures { result ≡ effect_of self change blocked quiet }
     {
         let outside = Outside {
             blocked,
             quiet,
-            written: Written::Done(false),
-            prepared: Tx::NoByte,
+            written: Ok(false),
+            prepared: None,
+            tx: None,
         };
-        let edge = self.i2c_pins(Tx::NoByte, previous, current, outside);
-        edge.effect
+        self.i2c_pins(change, outside).effect
     }
 
-    // The previous levels are those that the wires settled at, the current ones those before the sensor's own effect.
+    // What an edge makes of the state.
     #[tactic(auto, unfolding(crate::specs::Edge::edge_of))]
-    pub fn i2c_pins(self, tx: Tx, previous: Levels, current: Levels, outside: Outside) -> Edge
-        ensures { result ≡ edge_of self tx previous current outside }
+    pub fn i2c_pins(self, change: Change, outside: Outside) -> Edge
+        ensures { result ≡ edge_of self change outside }
     {
         if outside.blocked {
-            return plain(self.abort(), tx);
+            return plain(self.abort(), outside.tx);
         }
-        let starts = bus::is_start(previous, current);
-        let condition = starts | bus::is_stop(previous, current);
+        let starts = change.starts();
+        let condition = starts | change.stops();
         if condition {
             return self.condition(starts & !outside.quiet);
         }
         let phase = self.phase;
         let ends = outside.quiet & !phase.is_acknowledge();
         if ends {
-            return plain(self.abort(), tx);
+            return plain(self.abort(), outside.tx);
         }
-        self.clocked(tx, previous, current, outside)
+        self.clocked(change, outside)
     }
 }

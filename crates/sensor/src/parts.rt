@@ -15,31 +15,13 @@ impl Phase {
     pub(crate) fn is_idle(self) -> bool
         ensures { result ≡ is_idle self }
     {
-        match self {
-            Phase::Idle => true,
-            Phase::Receive(_) => false,
-            Phase::Acknowledge {
-                following: _,
-                edge: _,
-            } => false,
-            Phase::Read { sampled: _ } => false,
-            Phase::MasterAcknowledge(_) => false,
-        }
+        matches!(self, Phase::Idle)
     }
 
     pub(crate) fn is_acknowledge(self) -> bool
         ensures { result ≡ is_acknowledge self }
     {
-        match self {
-            Phase::Idle => false,
-            Phase::Receive(_) => false,
-            Phase::Acknowledge {
-                following: _,
-                edge: _,
-            } => true,
-            Phase::Read { sampled: _ } => false,
-            Phase::MasterAcknowledge(_) => false,
-        }
+        matches!(self, Phase::Acknowledge { .. })
     }
 }
 
@@ -65,13 +47,12 @@ impl State {
         let phase = self.phase;
         let none = (self.bits == 0) & (self.shift == 0);
         match phase {
-            Phase::Idle => none & !self.low,
             Phase::Receive(_) => !self.low & fits(self.shift, self.bits),
             Phase::Acknowledge { following: _, edge } => none
                 & (edge < 3)
                 & (self.low == (edge != 0)),
             Phase::Read { sampled } => none & (sampled < 9),
-            Phase::MasterAcknowledge(_) => none & !self.low,
+            Phase::Idle | Phase::MasterAcknowledge(_) => none & !self.low,
         }
     }
 }

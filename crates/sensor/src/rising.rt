@@ -3,7 +3,7 @@ ghost use Rattle.std.specs.Prelude.{◌≡◌};
 ghost use Rattle.sensor.specs.Rising.{addressed_of, asked_by, counted_of, read_on_of, rising_of, sampled_of, whole_of, written_next, wrote_of};
 
 use super::edges::{asking, plain};
-use super::{Answer, Edge, Effect, Following, Heard, Phase, Receive, State, Tx, Written};
+use super::{Edge, Effect, Following, Outside, Phase, Receive, State};
 
 // The sensor's address, bits 1 to 7 of an address byte.
 const ADDRESS: u8 = 0x38;
@@ -44,56 +44,51 @@ impl State {
     }
 
     #[tactic(auto, unfolding(crate::specs::Rising::wrote_of))]
-    fn wrote(self, byte: u8, tx: Tx, written: Written) -> Edge
+    fn wrote(self, byte: u8, tx: Option<u8>, written: Result<bool, u8>) -> Edge
         ensures { result ≡ wrote_of written byte tx self }
     {
-        let effect = Effect::Write(self.pointer, byte);
+        let asked = asking(Some(Effect::Write(self.pointer, byte)), self, tx);
         match written {
-            Written::Refused(number) => Edge {
-                answer: Answer::Refused(number),
-                effect,
-                cleared: false,
-                tx,
-                state: self,
+            Err(number) => Edge {
+                answer: Err(number),
+                ..asked
             },
-            Written::Done(quiet) => Edge {
-                answer: Answer::Changed(true),
-                effect,
-                cleared: false,
-                tx,
+            Ok(quiet) => Edge {
+                answer: Ok(true),
                 state: self.acknowledging(written_next(quiet)),
+                ..asked
             },
         }
     }
 
     // A byte is whole.
     #[tactic(auto, unfolding(crate::specs::Rising::whole_of))]
-    fn whole(self, kind: Receive, byte: u8, tx: Tx, written: Written) -> Edge
-        ensures { result ≡ whole_of kind byte tx written self }
+    fn whole(self, kind: Receive, byte: u8, outside: Outside) -> Edge
+        ensures { result ≡ whole_of kind byte outside self }
     {
         match kind {
-            Receive::Address => plain(self.addressed(byte), tx),
+            Receive::Address => plain(self.addressed(byte), outside.tx),
             Receive::Control => {
                 let pointed = State {
                     pointer: byte % 128,
                     ..self
                 };
-                plain(pointed.acknowledging(Following::Data), tx)
+                plain(pointed.acknowledging(Following::Data), outside.tx)
             }
-            Receive::Data => self.wrote(byte, tx, written),
+            Receive::Data => self.wrote(byte, outside.tx, outside.written),
         }
     }
 
     // A bit is sampled.
     #[tactic(auto, unfolding(crate::specs::Rising::sampled_of))]
-    fn sampled(self, kind: Receive, tx: Tx, sda: bool, written: Written) -> Edge
-        ensures { result ≡ sampled_of kind tx sda written self }
+    fn sampled(self, kind: Receive, sda: bool, outside: Outside) -> Edge
+        ensures { result ≡ sampled_of kind sda outside self }
     {
         let shift = bus::shift_in(self.shift, sda);
-        let bits = std::num::wrapping_add_u8(self.bits, 1);
+        let bits = self.bits.wrapping_add(1);
         let last = bits == 8;
         if last {
-            return self.abort().whole(kind, shift, tx, written);
+            return self.abort().whole(kind, shift, outside);
         }
         plain(
             State {
@@ -101,7 +96,7 @@ impl State {
                 shift,
                 ..self
             },
-            tx,
+            outside.tx,
         )
     }
 
@@ -112,7 +107,7 @@ impl State {
     {
         let last = sampled == 7;
         if last {
-            let pointer = std::num::wrapping_add_u8(self.pointer, 1) % 128;
+            let pointer = self.pointer.wrapping_add(1) % 128;
             return State {
                 phase: Phase::Read { sampled: 8 },
                 pointer,
@@ -120,18 +115,22 @@ impl State {
             };
         }
         self.at(Phase::Read {
-            sampled: std::num::wrapping_add_u8(sampled, 1),
+            sampled: sampled.wrapping_add(1),
         })
     }
 
     // A bit of the byte being sent is read.
     #[tactic(auto, unfolding(crate::specs::Rising::read_on_of))]
-    fn read_on(self, sampled: u8, tx: Tx) -> Edge
+    fn read_on(self, sampled: u8, tx: Option<u8>) -> Edge
         ensures { result ≡ read_on_of sampled tx self }
     {
         let first = sampled == 0;
         if first {
-            return asking(Effect::Acknowledge(self.pointer), self.counted(sampled), tx);
+            return asking(
+                Some(Effect::Acknowledge(self.pointer)),
+                self.counted(sampled),
+                tx,
+            );
         }
         let under_way = sampled < 8;
         if under_way {
@@ -142,21 +141,24 @@ impl State {
     }
 
     #[tactic(auto, unfolding(crate::specs::Rising::rising_of))]
-    pub(crate) fn rising(self, tx: Tx, sda: bool, written: Written) -> Edge
-        ensures { result ≡ rising_of self.phase tx sda written self }
+    pub(crate) fn rising(self, sda: bool, outside: Outside) -> Edge
+        ensures { result ≡ rising_of self.phase sda outside self }
     {
         let phase = self.phase;
         match phase {
-            Phase::Idle => plain(self, tx),
-            Phase::Receive(kind) => self.sampled(kind, tx, sda, written),
+            Phase::Idle => plain(self, outside.tx),
+            Phase::Receive(kind) => self.sampled(kind, sda, outside),
             Phase::Acknowledge { following, edge: _ } => {
-                plain(self.at(Phase::Acknowledge { following, edge: 2 }), tx)
+                plain(
+                    self.at(Phase::Acknowledge { following, edge: 2 }),
+                    outside.tx,
+                )
             }
-            Phase::Read { sampled } => self.read_on(sampled, tx),
+            Phase::Read { sampled } => self.read_on(sampled, outside.tx),
             Phase::MasterAcknowledge(_) => {
                 plain(
-                    self.at(Phase::MasterAcknowledge(Heard::Was(bus::is_acknowledge(sda)))),
-                    tx,
+                    self.at(Phase::MasterAcknowledge(Some(bus::is_acknowledge(sda)))),
+                    outside.tx,
                 )
             }
         }

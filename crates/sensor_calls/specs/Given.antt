@@ -1,25 +1,19 @@
 -- Definitions: what an edge is handed, of words, for the comparison with the Rust alone (compare/words/src/sensor.rs). A number that
 -- stands for no case counts as the last.
-use Rattle.std.specs.Prelude.{ℕ, ◌/◌, Bool, cond, eqb}
+use Rattle.std.specs.Prelude.{ℕ, ◌/◌, Bool, cond, eqb, Option, Some, None, Result, Ok, Err}
 use Rattle.bus.specs.Bits.{has}
 use Rattle.bus.specs.Bus.{levels}
-use Rattle.bus.specs.declared.Levels.{Levels}
-use Rattle.sensor.specs.Edge.{edge_of}
+use Rattle.sensor.specs.Edge.{change, edge_of}
+use Rattle.sensor.specs.declared.Change.{Change}
 use Rattle.sensor.specs.declared.Edge.{Edge}
 use Rattle.sensor.specs.declared.Following.{Following}
 use Rattle.sensor.specs.declared.Following.TheVariants as following
-use Rattle.sensor.specs.declared.Heard.{Heard}
-use Rattle.sensor.specs.declared.Heard.TheVariants as heard
 use Rattle.sensor.specs.declared.Outside.{Outside}
 use Rattle.sensor.specs.declared.Phase.{Phase}
 use Rattle.sensor.specs.declared.Phase.TheVariants as phase
 use Rattle.sensor.specs.declared.Receive.{Receive}
 use Rattle.sensor.specs.declared.Receive.TheVariants as receive
 use Rattle.sensor.specs.declared.State.{State}
-use Rattle.sensor.specs.declared.Tx.{Tx}
-use Rattle.sensor.specs.declared.Tx.TheVariants as tx
-use Rattle.sensor.specs.declared.Written.{Written}
-use Rattle.sensor.specs.declared.Written.TheVariants as written
 use Rattle.sensor_calls.specs.Bytes.{byte_of, is_one}
 
 abbrev pub kind_at : ℕ → Receive
@@ -28,8 +22,8 @@ kind_at n = cond (eqb n 0) receive.Address (cond (eqb n 1) receive.Control recei
 abbrev pub following_at : ℕ → Following
 following_at n = cond (eqb n 0) following.Control (cond (eqb n 1) following.Data (cond (eqb n 2) following.Read following.Idle))
 
-abbrev pub heard_at : ℕ → ℕ → Heard
-heard_at present acknowledged = cond (eqb present 1) (heard.Was (eqb acknowledged 1)) heard.NotYet
+abbrev pub heard_at : ℕ → ℕ → Option Bool
+heard_at present acknowledged = cond (eqb present 1) (Some (eqb acknowledged 1)) None
 
 unfoldable pub phase_at : ℕ → ℕ → ℕ → Phase
 phase_at n first second =
@@ -48,18 +42,15 @@ state_at w = record {
   low = is_one (w / 0x1_0000_0000_0000);
 }
 
-abbrev pub tx_at : Bool → ℕ → Tx
-tx_at present byte = cond present (tx.Byte byte) tx.NoByte
+abbrev pub tx_at : Bool → ℕ → Option ℕ
+tx_at present byte = cond present (Some byte) None
 
 -- 0 done, 1 done with a quiet time, 2 refused
-abbrev pub written_at : ℕ → ℕ → Written
-written_at kind number = cond (eqb kind 2) (written.Refused number) (written.Done (eqb kind 1))
+abbrev pub written_at : ℕ → ℕ → Result Bool ℕ
+written_at kind number = cond (eqb kind 2) (Err number) (Ok (eqb kind 1))
 
-abbrev pub previous_at : ℕ → Levels
-previous_at flags = levels (has flags 1) (has flags 2)
-
-abbrev pub current_at : ℕ → Levels
-current_at flags = levels (has flags 4) (has flags 8)
+abbrev pub change_at : ℕ → Change
+change_at flags = change (levels (has flags 1) (has flags 2)) (levels (has flags 4) (has flags 8))
 
 unfoldable pub outside_at : ℕ → Outside
 outside_at w = record {
@@ -67,9 +58,9 @@ outside_at w = record {
   quiet = has (byte_of (w / 0x1_0000)) 32;
   written = written_at (byte_of (w / 0x100_0000)) (byte_of (w / 0x1_0000_0000));
   prepared = tx_at (is_one (w / 0x100_0000_0000)) (byte_of (w / 0x1_0000_0000_0000));
+  tx = tx_at (is_one w) (byte_of (w / 0x100));
 }
 
 -- tx, levels and flags, the write's answer, the byte prepared
 unfoldable pub edge_at : ℕ → ℕ → Edge
-edge_at s w =
-    edge_of (state_at s) (tx_at (is_one w) (byte_of (w / 0x100))) (previous_at (byte_of (w / 0x1_0000))) (current_at (byte_of (w / 0x1_0000))) (outside_at w)
+edge_at s w = edge_of (state_at s) (change_at (byte_of (w / 0x1_0000))) (outside_at w)

@@ -4,7 +4,7 @@
 
 mod given;
 mod left;
-mod words;
+mod numbers;
 
 ghost use Rattle.std.specs.Prelude.{◌≡◌};
 ghost use Rattle.sensor.specs.State.{abort_of, fresh_state};

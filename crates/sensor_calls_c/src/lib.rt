@@ -1,4 +1,5 @@
-// The sensor's calls over words as a static library, for the comparison.
+// The sensor's calls over words as a static library, for the comparison. The names and signatures are those that C links, of the functions
+// of the library sensor_calls, and may not change: a static library is a crate of its own.
 #![tactic(auto)]
 
 ghost use Rattle.std.specs.Prelude.{◌≡◌};

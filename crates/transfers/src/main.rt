@@ -12,6 +12,7 @@ use board::Board;
 use clocks::{Clocks, Frequencies};
 use levels::Wires;
 use master::Bench;
+use show::verdict;
 use time::Time;
 
 fn clock_set() -> Clocks {
@@ -23,38 +24,36 @@ fn clock_set() -> Clocks {
 }
 
 fn by_levels(rt: &impl Print) {
-    let wires = Wires::new(Board::new().stored(0x0b, 0x96)).transfers(rt, 0x0a, 0x5c);
-    let board = wires.board;
-    show::text(rt, b"register 0a");
-    show::byte(rt, board.register(0x0a));
-    show::verdict(rt, board.register(0x0a) == 0x5c);
+    let mut board = Board::new();
+    board.store(0x0b, 0x96);
+    let mut wires = Wires::new(board);
+    wires.transfer(rt, 0x0a, 0x5c);
+    let stored = wires.board.register(0x0a);
+    let same = verdict(stored == 0x5c);
+    let _ = println!(rt; "register 0a {stored:02x} {same}");
 }
 
-// A byte written by the peripheral, and it and the one after it read back.
-fn by_the_peripheral(rt: &impl Print, pointer: u8, value: u8, next: u8, k: Clocks) {
-    let bench = Bench::new(Board::new().stored((pointer % 128 + 1) % 128, next), k).write(
-        rt, pointer, value, k,
+// Two bytes written, the first by the peripheral, and both read back by it.
+fn by_the_peripheral(rt: &impl Print, pointer: u8, bytes: [u8; 2], k: Clocks) {
+    let [value, next] = bytes;
+    let mut board = Board::new();
+    board.store(pointer % 128 + 1, next);
+    let mut bench = Bench::new(board, k);
+    bench.write(rt, pointer, value);
+    let stored = bench.board.register(pointer);
+    let same = verdict(stored == value);
+    let _ = println!(rt; "sent {value:02x} register {stored:02x} {same}");
+    let [first, second] = bench.read_two(rt, pointer);
+    let same = verdict([first, second] == bytes);
+    let _ = println!(rt;
+        "registers {value:02x} {next:02x} received {first:02x} {second:02x} {same}"
     );
-    let board = bench.board;
-    show::text(rt, b"sent");
-    show::byte(rt, value);
-    show::text(rt, b" register");
-    show::byte(rt, board.register(pointer));
-    show::verdict(rt, board.register(pointer) == value);
-    let two = bench.read_two(rt, pointer, k);
-    show::text(rt, b"registers");
-    show::byte(rt, value);
-    show::byte(rt, next);
-    show::text(rt, b" received");
-    show::byte(rt, two.first);
-    show::byte(rt, two.second);
-    show::verdict(rt, (two.first == value) & (two.second == next));
 }
 
 fn main(rt: HostRuntime) {
     let k = clock_set();
     by_levels(&rt);
-    by_the_peripheral(&rt, 0x0a, 0x5c, 0x96, k);
-    by_the_peripheral(&rt, 0x7f, 0x00, 0xff, k);
-    by_the_peripheral(&rt, 0x00, 0xff, 0x80, k);
+    by_the_peripheral(&rt, 0x0a, [0x5c, 0x96], k);
+    by_the_peripheral(&rt, 0x7f, [0x00, 0xff], k);
+    by_the_peripheral(&rt, 0x00, [0xff, 0x80], k);
 }

@@ -1,42 +1,34 @@
-// What the program prints.
+// How the program prints what it prints.
 use bus::Levels;
 use sensor::Effect;
+use std::fmt;
 
-pub(crate) fn text(rt: &impl Print, bytes: &[u8]) {
-    let _ = rt.write_all(bytes);
+// Two levels as digits, SCL first.
+#[derive(Clone, Copy)]
+pub(crate) struct Digits(pub Levels);
+
+impl fmt::Display for Digits {
+    fn fmt<W: fmt::Write>(&self, f: &mut fmt::Formatter<W>) -> fmt::Result {
+        let Levels { scl, sda } = self.0;
+        write!(f, "{}{}", u8::from(scl), u8::from(sda))
+    }
 }
 
-pub(crate) fn byte(rt: &impl Print, n: u8) {
-    let _ = print!(rt; " {n:02x}");
-}
+// What an edge asks, after a space; nothing where it asks nothing.
+#[derive(Clone, Copy)]
+pub(crate) struct Asked(pub Option<Effect>);
 
-pub(crate) fn levels(rt: &impl Print, l: Levels) {
-    let _ = print!(rt; "{}{}", u8::from(l.scl), u8::from(l.sda));
-}
-
-pub(crate) fn effect(rt: &impl Print, e: Effect) {
-    match e {
-        Effect::NoEffect => {}
-        Effect::Write(pointer, value) => {
-            text(rt, b" write");
-            byte(rt, pointer);
-            byte(rt, value);
-        }
-        Effect::Prepare(pointer) => {
-            text(rt, b" prepare");
-            byte(rt, pointer);
-        }
-        Effect::Acknowledge(pointer) => {
-            text(rt, b" read");
-            byte(rt, pointer);
+impl fmt::Display for Asked {
+    fn fmt<W: fmt::Write>(&self, f: &mut fmt::Formatter<W>) -> fmt::Result {
+        match self.0 {
+            None => Ok(()),
+            Some(Effect::Write(pointer, value)) => write!(f, " write {pointer:02x} {value:02x}"),
+            Some(Effect::Prepare(pointer)) => write!(f, " prepare {pointer:02x}"),
+            Some(Effect::Acknowledge(pointer)) => write!(f, " read {pointer:02x}"),
         }
     }
 }
 
-pub(crate) fn verdict(rt: &impl Print, equal: bool) {
-    if equal {
-        text(rt, b" equal\n");
-    } else {
-        text(rt, b" NOT equal\n");
-    }
+pub(crate) fn verdict(equal: bool) -> &'static str {
+    if equal { "equal" } else { "NOT equal" }
 }
