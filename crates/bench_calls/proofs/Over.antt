@@ -12,6 +12,7 @@ use lib.ListN.{get_or, length}
 use mathlib.Core.List.{List, [], ◌∷◌}
 use mathlib.Core.Path.{◌≡◌, ◌∙◌, ap, subst}
 use native.Mathlib.Omega.{arith}
+use Rattle.refusals.specs.Refusals.{number_ended}
 
 module _ (s : Summary) (b : Run) (ended : s ≡ summary_of b) (four : length s.states ≡ 4) where
   -- a state's words, whatever stands for a state that there isn't
@@ -29,9 +30,9 @@ module _ (s : Summary) (b : Run) (ended : s ≡ summary_of b) (four : length s.s
       Begins (register_words (get_or s.states 1 d).registers) second →
       Begins (register_words (get_or s.states 2 d).registers) third →
       Begins (register_words (get_or s.states 3 d).registers) fourth →
-      HandedBack b s.refusal before after (s.written ∷ s.lines ∷ []) first second third fourth
+      HandedBack b (number_ended s.ended) before after (s.written ∷ s.lines ∷ []) first second third fourth
   handed_back d before after first second third fourth text g0 g1 g2 g3 = record {
-    refusal = ap (λ (x : Summary). x.refusal) ended;
+    refusal = ap (λ (x : Summary). number_ended x.ended) ended;
     text = text;
     done = ap (λ (x : Summary). x.written ∷ x.lines ∷ []) ended;
     unit0 = registered 0 d first (lit< tt) g0;

@@ -2,6 +2,7 @@
 use Rattle.std.specs.Prelude.{ℕ, length, List, [], ◌∷◌, ◌≡◌}
 use Rattle.bench.specs.Bench.{Run, over, summary_of}
 use Rattle.bench.specs.Moments.{state_at}
+use Rattle.refusals.specs.Refusals.{number_ended}
 use Rattle.calls.specs.States.{Begins, register_words}
 
 -- the words of a peripheral's state begin with its registers
@@ -11,7 +12,7 @@ Registered b u words = Begins (register_words (state_at b.bench u).registers) wo
 -- of a bench at its end: r is 0 or the refusal; the buffer holds the lines' text, the rest of it unchanged; the counts are the bytes written and the
 -- script lines answered; then come the four states
 pub record HandedBack (b : Run) (r : ℕ) (before after counts first second third fourth : List ℕ) : Type 0 where
-  pub refusal : r ≡ (summary_of b).refusal
+  pub refusal : r ≡ number_ended (summary_of b).ended
   pub text : after ≡ over b before
   pub done : counts ≡ length b.bytes ∷ b.answered ∷ []
   pub unit0 : Registered b 0 first

@@ -9,6 +9,7 @@ ghost use Rattle.clock_calls.specs.Sets.{clocks_at};
 use bench::play;
 use calls::states::put_iic;
 use clock_calls::sets::clocks_of;
+use refusals::number_ended;
 
 // A bench of so many peripherals over that clock set: 0 or the refusal; the bytes written and the script lines answered, and the states.
 #[unsafe(no_mangle)]
@@ -27,10 +28,11 @@ pub extern "C" fn bench_over(
 {
     let ended = play(count, clocks_of(set), script, out);
     *done = [ended.written as u64, ended.lines];
+    // One parameter for each state, and no slice of them: `bench_over`'s signature is the interface to C.
     let states = ended.states;
     put_iic(states[0], first);
     put_iic(states[1], second);
     put_iic(states[2], third);
     put_iic(states[3], fourth);
-    ended.refusal as u64
+    number_ended(ended.ended) as u64
 }

@@ -1,4 +1,6 @@
 // The bench over words as a static library, for the comparison.
+// The names and signatures are those that C links and may not change, and a static library is a crate of its own: so each export stands here and in the
+// library bench_calls.
 #![tactic(auto)]
 
 ghost use Rattle.std.specs.Prelude.{length};

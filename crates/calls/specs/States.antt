@@ -1,9 +1,5 @@
 -- Definitions: the words of the peripheral's state, 75 of them, and what is told of its answers (compare/words/src/iic.rs says where what lies).
 use Rattle.std.specs.Prelude.{◌≡◌, ℕ, zero, suc, ◌+◌, ◌%◌, List, [], ◌∷◌, slice_index}
-use Rattle.iic.specs.declared.Byte.TheVariants as byte
-use Rattle.iic.specs.declared.Byte.{Byte}
-use Rattle.iic.specs.declared.Ended.TheVariants as ended
-use Rattle.iic.specs.declared.Ended.{Ended}
 use Rattle.registers.specs.declared.Registers.{Registers}
 use Rattle.rates.specs.declared.Rates.{Rates}
 use Rattle.std.proofs.lemmas.List.Edits.{sets}
@@ -25,13 +21,3 @@ lengths_at (suc n) w at = slice_index w at % 65536 ∷ lengths_at n w (at + 1)
 -- the rate set, the last 14 words of the state
 unfoldable pub rates_at : List ℕ → Rates
 rates_at w = record { half_clocks = lengths_at 8 w 61; monitors = lengths_at 4 w 69; setups = lengths_at 2 w 73 }
-
--- ## The number of each answer's refusal, 0 for none (document 01, "Refused because of the input", "Refused because of the state")
-
-abbrev pub byte_number : Byte → ℕ
-byte_number (byte.Is v) = 0
-byte_number (byte.Refused n) = n
-
-abbrev pub ended_number : Ended → ℕ
-ended_number ended.Finished = 0
-ended_number (ended.Refused n) = n

@@ -1,14 +1,16 @@
 // The peripheral's calls, with its state as words.
 ghost use Rattle.std.specs.Prelude.{◌≡◌};
-ghost use Rattle.calls.specs.States.{Begins, byte_number, ended_number, rates_at, register_words};
-ghost use Rattle.clock_calls.specs.Told.{Told, truth_number};
+ghost use Rattle.calls.specs.States.{Begins, rates_at, register_words};
+ghost use Rattle.clock_calls.specs.Told.{Told};
 ghost use Rattle.iic.specs.State.{default_iic, with_rates_of};
+ghost use Rattle.refusals.specs.Refusals.{number_ended};
 
 use super::states::{byte_of, iic_of, put_iic, rates_of};
-use clock_calls::clock_waits::put_deadline;
+use clock_calls::first_time;
+use clock_calls::put::{Words, put};
 use clock_calls::sets::clocks_of;
-use clock_calls::{first_time, put_refusal, put_truth, put_word};
-use iic::{Byte, Ended, Iic, Noticed, Pins, ReadOut, Stepped};
+use iic::{Answered, Iic};
+use refusals::number_ended;
 
 // The state before the first call.
 pub fn fresh(state: &mut [u64; 75])
@@ -20,15 +22,15 @@ pub fn fresh(state: &mut [u64; 75])
 // The state before the first call with the rate set that the words hold, and whether the set is refused.
 #[tactic(auto, unfolding(iic::specs::State::initial))]
 pub fn with_rates(state: &mut [u64; 75]) -> u64
-    ensures refusal { result ≡ (with_rates_of (rates_at state.old)).refusal }
+    ensures refusal { result ≡ number_ended (with_rates_of (rates_at state.old)).answer }
     ensures registers { Begins (register_words default_iic.registers) state.new }
 {
     let given = Iic::with_rates(rates_of(state));
     put_iic(given.state, state);
-    given.refusal as u64
+    number_ended(given.answer) as u64
 }
 
-// A call that can change the state. What it leaves of it is written back.
+// A call that can change the state. What it leaves of it is written back. Its number comes through `probe_iic_act` of the C interface.
 pub fn act(
     number: u64,
     state: &mut [u64; 75],
@@ -50,7 +52,7 @@ pub fn act(
 fn read(state: &mut [u64; 75], set: &[u64; 81], args: &[u64; 24], out: &mut [u64; 82]) -> u64
     ensures { Told 10 result out.old out.new }
 {
-    put_read(
+    put_answered(
         iic_of(state).read(address_of(args[2]), first_time(args), clocks_of(set)),
         state,
         out,
@@ -60,7 +62,7 @@ fn read(state: &mut [u64; 75], set: &[u64; 81], args: &[u64; 24], out: &mut [u64
 fn write(state: &mut [u64; 75], set: &[u64; 81], args: &[u64; 24], out: &mut [u64; 82]) -> u64
     ensures { Told 10 result out.old out.new }
 {
-    put_stepped(
+    put_answered(
         iic_of(state).write(
             address_of(args[2]),
             byte_of(args[3]),
@@ -75,7 +77,7 @@ fn write(state: &mut [u64; 75], set: &[u64; 81], args: &[u64; 24], out: &mut [u6
 fn input_pins(state: &mut [u64; 75], set: &[u64; 81], args: &[u64; 24], out: &mut [u64; 82]) -> u64
     ensures { Told 10 result out.old out.new }
 {
-    put_noticed(
+    put_answered(
         iic_of(state).input_pins(args[2] != 0, args[3] != 0, first_time(args), clocks_of(set)),
         state,
         out,
@@ -85,7 +87,7 @@ fn input_pins(state: &mut [u64; 75], set: &[u64; 81], args: &[u64; 24], out: &mu
 fn set_gate(state: &mut [u64; 75], set: &[u64; 81], args: &[u64; 24], out: &mut [u64; 82]) -> u64
     ensures { Told 10 result out.old out.new }
 {
-    put_stepped(
+    put_answered(
         iic_of(state).set_gate(args[2] != 0, first_time(args), clocks_of(set)),
         state,
         out,
@@ -95,7 +97,7 @@ fn set_gate(state: &mut [u64; 75], set: &[u64; 81], args: &[u64; 24], out: &mut 
 fn advance(state: &mut [u64; 75], set: &[u64; 81], args: &[u64; 24], out: &mut [u64; 82]) -> u64
     ensures { Told 10 result out.old out.new }
 {
-    put_stepped(
+    put_answered(
         iic_of(state).advance(first_time(args), clocks_of(set)),
         state,
         out,
@@ -105,13 +107,13 @@ fn advance(state: &mut [u64; 75], set: &[u64; 81], args: &[u64; 24], out: &mut [
 pub fn deadline(state: &[u64; 75], set: &[u64; 81], out: &mut [u64; 82]) -> u64
     ensures { Told 10 result out.old out.new }
 {
-    put_deadline(iic_of(state).deadline(clocks_of(set)), out)
+    put(iic_of(state).deadline(clocks_of(set)), out)
 }
 
 pub fn validate(state: &[u64; 75], args: &[u64; 24], out: &mut [u64; 82]) -> u64
     ensures { Told 10 result out.old out.new }
 {
-    put_refusal(iic_of(state).validate(first_time(args)), out)
+    put(iic_of(state).validate(first_time(args)), out)
 }
 
 // What else can be asked without a clock: the eight registers, the lines, both interrupts.
@@ -123,8 +125,8 @@ pub fn observe(state: &[u64; 75], args: &[u64; 24], out: &mut [u64; 82]) -> u64
     let address = args[2];
     let retained = byte_of(args[3]);
     match iic.pins() {
-        Pins::NoPins => put_shown(iic, address, retained, 0, 0, 0, out),
-        Pins::Driven(l) => put_shown(iic, address, retained, 1, l.scl as u64, l.sda as u64, out),
+        None => put_shown(iic, address, retained, 0, 0, 0, out),
+        Some(l) => put_shown(iic, address, retained, 1, l.scl as u64, l.sda as u64, out),
     }
 }
 
@@ -132,56 +134,18 @@ fn address_of(n: u64) -> u16 {
     (n % 65536) as u16
 }
 
-fn put_byte(b: Byte, out: &mut [u64; 82]) -> u64
-    ensures number { result ≡ byte_number b }
-    ensures told { Told 10 result out.old out.new }
-{
-    match b {
-        Byte::Is(value) => put_word(value as u64, out),
-        Byte::Refused(n) => put_refusal(n, out),
-    }
-}
-
-fn put_ended(ended: Ended, out: &mut [u64; 82]) -> u64
-    ensures number { result ≡ ended_number ended }
-    ensures told { Told 10 result out.old out.new }
-{
-    match ended {
-        Ended::Finished => put_refusal(0, out),
-        Ended::Refused(n) => put_refusal(n, out),
-    }
-}
-
-fn put_stepped(stepped: Stepped, state: &mut [u64; 75], out: &mut [u64; 82]) -> u64
-    ensures number { result ≡ ended_number stepped.ended }
-    ensures told { Told 10 result out.old out.new }
-{
-    let ended = stepped.ended;
-    put_iic(stepped.state, state);
-    put_ended(ended, out)
-}
-
 // A register by `peek`, so many addresses on.
 fn shown(iic: Iic, address: u64, on: u64) -> u64 {
-    iic.peek(address_of(std::num::wrapping_add_u64(address, on))) as u64
+    iic.peek(address_of(address.wrapping_add(on))) as u64
 }
 
-fn put_read(done: ReadOut, state: &mut [u64; 75], out: &mut [u64; 82]) -> u64
-    ensures number { result ≡ byte_number done.answer }
+// The answer, and the state that the call left.
+fn put_answered<A: Words>(done: Answered<A>, state: &mut [u64; 75], out: &mut [u64; 82]) -> u64
+    ensures number { result ≡ number_ended done.answer }
     ensures told { Told 10 result out.old out.new }
 {
-    let answer = done.answer;
     put_iic(done.state, state);
-    put_byte(answer, out)
-}
-
-fn put_noticed(done: Noticed, state: &mut [u64; 75], out: &mut [u64; 82]) -> u64
-    ensures number { result ≡ truth_number done.answer }
-    ensures told { Told 10 result out.old out.new }
-{
-    let answer = done.answer;
-    put_iic(done.state, state);
-    put_truth(answer, out)
+    put(done.answer, out)
 }
 
 // The registers, whether pins are driven and their levels, and the interrupts.

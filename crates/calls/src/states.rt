@@ -8,12 +8,12 @@ use clock_calls::clock_waits::{half_by, wait_by};
 use clock_calls::number_of;
 use clocks::tap::Tap;
 use clocks::wait::{ClockWait, WaitState};
-use frames::{Frame, Framing, Phase};
-use iic::{Command, Condition, EighthFall, Flags, Hold, Iic, Lines};
+use frames::{Frame, Phase};
+use iic::{Condition, Flags, Hold, Iic, Lines};
 use rates::Rates;
 use registers::Registers;
 use time::Time;
-use waits::{MaybeHalf, MaybeWait};
+use waits::HalfWait;
 
 pub(crate) fn byte_of(n: u64) -> u8 {
     (n % 256) as u8
@@ -63,12 +63,13 @@ fn flags_of(w: &[u64; 75]) -> Flags {
     }
 }
 
-fn wait_of(w: &[u64; 75], at: usize) -> MaybeWait
+fn wait_of(w: &[u64; 75], at: usize) -> Option<ClockWait>
     requires { at ≤ 32 }
 {
     wait_by(w[at], w[at + 1], w[at + 2], w[at + 3], w[at + 4], w[at + 5])
 }
 
+// No TryFrom in this file: a number that stands for no kind counts as the last.
 fn condition_of(present: u64, number: u64) -> Condition {
     if present == 0 {
         return Condition::NoCondition;
@@ -84,11 +85,8 @@ fn condition_of(present: u64, number: u64) -> Condition {
     }
 }
 
-fn command_of(present: u64, start: u64) -> Command {
-    if present == 0 {
-        return Command::NoCommand;
-    }
-    Command::Commanded(start != 0)
+fn command_of(present: u64, start: u64) -> Option<bool> {
+    (present != 0).then_some(start != 0)
 }
 
 fn hold_of(present: u64, number: u64) -> Hold {
@@ -110,11 +108,11 @@ fn phase_of(number: u64) -> Phase {
     }
 }
 
-fn frame_of(w: &[u64; 75]) -> Framing {
+fn frame_of(w: &[u64; 75]) -> Option<Frame> {
     if w[43] == 0 {
-        return Framing::NoFrame;
+        return None;
     }
-    Framing::InFrame(Frame {
+    Some(Frame {
         shift: byte_of(w[44]),
         remaining: byte_of(w[45]),
         phase: phase_of(w[46]),
@@ -125,11 +123,8 @@ fn frame_of(w: &[u64; 75]) -> Framing {
     })
 }
 
-fn fall_of(present: u64, seconds: u64, fraction: u64) -> EighthFall {
-    if present == 0 {
-        return EighthFall::NoFall;
-    }
-    EighthFall::FellAt(Time { seconds, fraction })
+fn fall_of(present: u64, seconds: u64, fraction: u64) -> Option<Time> {
+    (present != 0).then_some(Time { seconds, fraction })
 }
 
 fn length_of(n: u64) -> u16
@@ -239,8 +234,7 @@ fn put_three(first: u64, second: u64, third: u64, w: &mut [u64; 75], at: usize)
 fn put_tap(tap: Tap, w: &mut [u64; 75], at: usize)
     requires { at ≤ 57 }
 {
-    let source = tap.source;
-    put_three(1, number_of(source), tap.divide as u64, w, at);
+    put_three(1, number_of(tap.source), tap.divide as u64, w, at);
 }
 
 fn put_state(state: WaitState, w: &mut [u64; 75], at: usize)
@@ -257,73 +251,49 @@ fn put_clock_wait(wait: ClockWait, w: &mut [u64; 75], at: usize)
     requires { at ≤ 32 }
 {
     put_tap(wait.tap, w, at);
-    let state = wait.state;
-    put_state(state, w, at + 3);
+    put_state(wait.state, w, at + 3);
 }
 
-fn put_wait(wait: MaybeWait, w: &mut [u64; 75], at: usize)
+fn put_wait(wait: Option<ClockWait>, w: &mut [u64; 75], at: usize)
     requires { at ≤ 32 }
 {
     match wait {
-        MaybeWait::NoWait => {
+        None => {
             put_three(0, 0, 0, w, at);
             put_three(0, 0, 0, w, at + 3);
         }
-        MaybeWait::Waiting(wait) => put_clock_wait(wait, w, at),
+        Some(wait) => put_clock_wait(wait, w, at),
     }
 }
 
-fn put_half(wait: MaybeHalf, w: &mut [u64; 75], at: usize)
+fn put_half(wait: Option<HalfWait>, w: &mut [u64; 75], at: usize)
     requires { at ≤ 29 }
 {
     match wait {
-        MaybeHalf::NoHalf => put_three(0, 0, 0, w, at),
-        MaybeHalf::Half(half) => put_three(1, half.count, half.paused as u64, w, at),
+        None => put_three(0, 0, 0, w, at),
+        Some(half) => put_three(1, half.count, half.paused as u64, w, at),
     }
 }
 
-fn put_condition(condition: Condition, w: &mut [u64; 75]) {
-    match condition {
-        Condition::NoCondition => put_two(0, 0, w, 39),
-        Condition::StartRelease => put_two(1, 0, w, 39),
-        Condition::StartHigh => put_two(1, 1, w, 39),
-        Condition::StartHold => put_two(1, 2, w, 39),
-        Condition::StopLow => put_two(1, 3, w, 39),
-        Condition::StopHigh => put_two(1, 4, w, 39),
-        Condition::StopRelease => put_two(1, 5, w, 39),
-        Condition::StopDetect => put_two(1, 6, w, 39),
-    }
+// A kind that may be none: whether there is one, and its number among the others.
+fn put_kind(number: u64, w: &mut [u64; 75], at: usize)
+    requires { at ≤ 58 }
+{
+    put_two(u64::from(number != 0), number.saturating_sub(1), w, at);
 }
 
-fn put_command(command: Command, w: &mut [u64; 75]) {
+fn put_command(command: Option<bool>, w: &mut [u64; 75]) {
     match command {
-        Command::NoCommand => put_two(0, 0, w, 41),
-        Command::Commanded(start) => put_two(1, start as u64, w, 41),
-    }
-}
-
-fn put_hold(hold: Hold, w: &mut [u64; 75]) {
-    match hold {
-        Hold::NoHold => put_two(0, 0, w, 53),
-        Hold::Transmit => put_two(1, 0, w, 53),
-        Hold::Receive => put_two(1, 1, w, 53),
-    }
-}
-
-fn phase_number(phase: Phase) -> u64 {
-    match phase {
-        Phase::Data => 0,
-        Phase::Ack => 1,
-        Phase::Done => 2,
+        None => put_two(0, 0, w, 41),
+        Some(start) => put_two(1, start as u64, w, 41),
     }
 }
 
 fn put_present(f: Frame, w: &mut [u64; 75]) {
-    let phase = f.phase;
     w[43] = 1;
     w[44] = f.shift as u64;
     w[45] = f.remaining as u64;
-    w[46] = phase_number(phase);
+    w[46] = f.phase as u64;
     w[47] = f.address as u64;
     w[48] = f.transmit as u64;
     w[49] = f.loaded as u64;
@@ -336,70 +306,49 @@ fn put_absent(w: &mut [u64; 75]) {
     put_two(0, 0, w, 49);
 }
 
-fn put_frame(frame: Framing, w: &mut [u64; 75]) {
+fn put_frame(frame: Option<Frame>, w: &mut [u64; 75]) {
     match frame {
-        Framing::NoFrame => put_absent(w),
-        Framing::InFrame(f) => put_present(f, w),
+        None => put_absent(w),
+        Some(f) => put_present(f, w),
     }
 }
 
-fn put_fall(fall: EighthFall, w: &mut [u64; 75]) {
+fn put_fall(fall: Option<Time>, w: &mut [u64; 75]) {
     match fall {
-        EighthFall::NoFall => put_three(0, 0, 0, w, 57),
-        EighthFall::FellAt(t) => put_three(1, t.seconds, t.fraction, w, 57),
+        None => put_three(0, 0, 0, w, 57),
+        Some(t) => put_three(1, t.seconds, t.fraction, w, 57),
     }
 }
 
-fn wide(length: u16) -> u64 {
-    length as u64
+fn put_lengths(lengths: &[u16], w: &mut [u64]) {
+    for (word, length) in w.iter_mut().zip(lengths) {
+        *word = u64::from(*length);
+    }
 }
 
 fn put_rates(rates: Rates, w: &mut [u64; 75]) {
-    let h = rates.half_clocks;
-    let m = rates.monitors;
-    let s = rates.setups;
-    w[61] = wide(h[0]);
-    w[62] = wide(h[1]);
-    w[63] = wide(h[2]);
-    w[64] = wide(h[3]);
-    w[65] = wide(h[4]);
-    w[66] = wide(h[5]);
-    w[67] = wide(h[6]);
-    w[68] = wide(h[7]);
-    w[69] = wide(m[0]);
-    w[70] = wide(m[1]);
-    w[71] = wide(m[2]);
-    w[72] = wide(m[3]);
-    w[73] = wide(s[0]);
-    w[74] = wide(s[1]);
+    put_lengths(&rates.half_clocks, &mut w[61..69]);
+    put_lengths(&rates.monitors, &mut w[69..73]);
+    put_lengths(&rates.setups, &mut w[73..75]);
 }
 
 fn put_waits(iic: Iic, w: &mut [u64; 75]) {
-    let clock_wait = iic.clock_wait;
-    let monitor_wait = iic.monitor_wait;
-    let filter_wait = iic.filter_wait;
-    let setup_wait = iic.setup_wait;
-    put_wait(filter_wait, w, 20);
-    put_half(clock_wait, w, 26);
-    put_half(monitor_wait, w, 29);
-    put_wait(setup_wait, w, 32);
+    put_wait(iic.filter_wait, w, 20);
+    put_half(iic.clock_wait, w, 26);
+    put_half(iic.monitor_wait, w, 29);
+    put_wait(iic.setup_wait, w, 32);
 }
 
 pub fn put_iic(iic: Iic, w: &mut [u64; 75])
     ensures { Begins (register_words iic.registers) w.new }
 {
-    let frame = iic.frame;
-    let condition = iic.condition;
-    let command = iic.command;
-    let hold = iic.hold;
-    let eighth_fall = iic.eighth_fall;
     put_lines(iic.lines, w);
     put_flags(iic.flags, w);
-    put_frame(frame, w);
-    put_condition(condition, w);
-    put_command(command, w);
-    put_hold(hold, w);
-    put_fall(eighth_fall, w);
+    put_frame(iic.frame, w);
+    put_kind(iic.condition as u64, w, 39);
+    put_command(iic.command, w);
+    put_kind(iic.hold as u64, w, 53);
+    put_fall(iic.eighth_fall, w);
     put_waits(iic, w);
     put_rates(iic.rates, w);
     put_registers(iic.registers, w);

@@ -1,20 +1,15 @@
 -- Definitions: what a call leaves in the words that are lent to it (compare/words/src/layout.rs says where what lies).
-use Rattle.std.specs.Prelude.{◌+◌, ◌<◌, ℕ, get_or, length, cond, List, [], ◌∷◌, ◌≡◌}
+use Rattle.std.specs.Prelude.{◌+◌, ◌<◌, ℕ, zero, suc, get_or, length, cond, List, [], ◌∷◌, ◌≡◌, Bool, Err, None, Ok, Option, Result, Some, ⊤}
+use Rattle.clocks.specs.Tap.{source_number}
 use Rattle.clocks.specs.declared.Frequencies.{Frequencies}
-use Rattle.counts.specs.declared.Truth.TheVariants as truth
-use Rattle.counts.specs.declared.Truth.{Truth}
-use Rattle.domain.specs.declared.NewDomain.TheVariants as domain
-use Rattle.domain.specs.declared.NewDomain.{NewDomain}
-use Rattle.clocks.specs.declared.wait.Deadline.TheVariants as deadline
-use Rattle.clocks.specs.declared.wait.Deadline.{Deadline}
-use Rattle.clocks.specs.declared.wait.NewWait.TheVariants as wait
-use Rattle.clocks.specs.declared.wait.NewWait.{NewWait}
-use Rattle.time.specs.declared.Count.TheVariants as count
-use Rattle.time.specs.declared.Count.{Count}
-use Rattle.time.specs.declared.Moment.TheVariants as moment
-use Rattle.time.specs.declared.Moment.{Moment}
-use Rattle.time.specs.declared.NewClock.TheVariants as clock
-use Rattle.time.specs.declared.NewClock.{NewClock}
+use Rattle.clocks.specs.declared.tap.Tap.{Tap}
+use Rattle.clocks.specs.declared.wait.ClockWait.{ClockWait}
+use Rattle.clocks.specs.declared.wait.WaitState.TheVariants.{Running, Paused, Ready}
+use Rattle.clocks.specs.declared.wait.WaitState.{WaitState}
+use Rattle.domain.specs.declared.Domain.{Domain}
+use Rattle.refusals.specs.Refusals.{number_of}
+use Rattle.refusals.specs.declared.Refusal.{Refusal}
+use Rattle.time.specs.declared.Clock.{Clock}
 use Rattle.time.specs.declared.Time.{Time}
 use Rattle.std.proofs.lemmas.List.Edits.{sets}
 
@@ -29,52 +24,59 @@ pub record Told (n r : ℕ) (before after : List ℕ) : Type 0 where
   pub written : Written n r before after
   pub none : 0 < r → written.words ≡ []
 
--- ## The number of each answer's refusal, 0 for none (document 01, "Refused because of the input", "Refused because of the state")
+-- the words of an answer: the number of its refusal alone; or 0, and the words of what is answered
+abbrev pub answer_words : {A : Type 0} → (A → List ℕ) → Result A Refusal → List ℕ
+answer_words words (Ok a) = 0 ∷ words a
+answer_words words (Err r) = number_of r ∷ []
 
-abbrev pub moment_number : Moment → ℕ
-moment_number (moment.At t) = 0
-moment_number (moment.Refused n) = n
+-- ## The words of what is answered: nine of them, what isn't used being 0; five of a wait, and none where there is nothing to tell
 
-abbrev pub count_number : Count → ℕ
-count_number (count.Of m) = 0
-count_number (count.Refused n) = n
+-- so many zeros
+abbrev pub zeros : ℕ → List ℕ
+zeros zero = []
+zeros (suc n) = 0 ∷ zeros n
 
-abbrev pub truth_number : Truth → ℕ
-truth_number (truth.Is b) = 0
-truth_number (truth.Refused n) = n
+abbrev pub nothing_words : ⊤ → List ℕ
+nothing_words u = []
 
-abbrev pub new_clock_number : NewClock → ℕ
-new_clock_number (clock.Made c) = 0
-new_clock_number (clock.Refused n) = n
+abbrev pub count_words : ℕ → List ℕ
+count_words n = n ∷ zeros 8
 
-abbrev pub new_domain_number : NewDomain → ℕ
-new_domain_number (domain.Made d) = 0
-new_domain_number (domain.Refused n) = n
+abbrev pub truth_words : Bool → List ℕ
+truth_words b = count_words (cond b 1 0)
 
-abbrev pub new_wait_number : NewWait → ℕ
-new_wait_number (wait.Made w) = 0
-new_wait_number (wait.Refused n) = n
+abbrev pub time_words : Time → List ℕ
+time_words t = t.seconds ∷ t.fraction ∷ zeros 7
 
-abbrev pub deadline_number : Deadline → ℕ
-deadline_number deadline.Never = 0
-deadline_number (deadline.At t) = 0
-deadline_number (deadline.Refused n) = n
+-- whether there is a time, then it
+abbrev pub deadline_words : Option Time → List ℕ
+deadline_words None = zeros 9
+deadline_words (Some t) = 1 ∷ t.seconds ∷ t.fraction ∷ zeros 6
 
--- ## The words of an answer: the number of its refusal alone; or 0, what is answered, and zeros, ten words in all
+abbrev pub clock_words : Clock → List ℕ
+clock_words c = c.start.seconds ∷ c.start.fraction ∷ c.numerator ∷ c.denominator ∷ c.ordinal ∷ c.fraction ∷ zeros 3
 
--- a word
-abbrev pub word_alone : ℕ → List ℕ
-word_alone n = 0 ∷ n ∷ 0 ∷ 0 ∷ 0 ∷ 0 ∷ 0 ∷ 0 ∷ 0 ∷ 0 ∷ []
+-- a clock, whether it runs, and when it was held
+abbrev pub domain_words : Domain → List ℕ
+domain_words d =
+    let c = d.clock in
+    c.start.seconds ∷ c.start.fraction ∷ c.numerator ∷ c.denominator ∷ c.ordinal ∷ c.fraction ∷ cond d.running 1 0 ∷ d.held_at.seconds ∷ d.held_at.fraction ∷ []
 
-abbrev pub truth_words : Truth → List ℕ
-truth_words (truth.Is b) = word_alone (cond b 1 0)
-truth_words (truth.Refused n) = n ∷ []
+abbrev pub tap_words : Tap → List ℕ
+tap_words t = source_number t.source ∷ t.divide ∷ zeros 7
 
--- whether there is one, then its time
-abbrev pub deadline_words : Deadline → List ℕ
-deadline_words deadline.Never = word_alone 0
-deadline_words (deadline.At t) = 0 ∷ 1 ∷ t.seconds ∷ t.fraction ∷ 0 ∷ 0 ∷ 0 ∷ 0 ∷ 0 ∷ 0 ∷ []
-deadline_words (deadline.Refused n) = n ∷ []
+abbrev pub frequencies_words : Frequencies → List ℕ
+frequencies_words f = f.main_hz ∷ f.watch_hz ∷ f.on_chip_hz ∷ zeros 6
+
+-- the number of the state, and what it holds
+abbrev pub state_words : WaitState → List ℕ
+state_words (Running target) = 0 ∷ target ∷ 0 ∷ []
+state_words (Paused remaining) = 1 ∷ remaining ∷ 0 ∷ []
+state_words (Ready t) = 2 ∷ t.seconds ∷ t.fraction ∷ []
+
+-- a tap, then the state
+abbrev pub wait_words : ClockWait → List ℕ
+wait_words w = source_number w.tap.source ∷ w.tap.divide ∷ state_words w.state
 
 -- ## The arguments of `Clocks::new`
 

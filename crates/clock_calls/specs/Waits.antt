@@ -1,16 +1,14 @@
 -- Definitions: the taps and waits that words are (compare/words/src/layout.rs says where what lies). A number that stands for no case
 -- counts as the last.
-use Rattle.std.specs.Prelude.{◌%◌, ℕ, eqb, cond, not}
+use Rattle.std.specs.Prelude.{◌%◌, ℕ, eqb, cond, not, None, Option, Some}
 use Rattle.clocks.specs.Tap.{tap_of}
 use Rattle.clocks.specs.declared.tap.Source.TheVariants as source
 use Rattle.clocks.specs.declared.tap.Source.{Source}
 use Rattle.clocks.specs.declared.tap.Tap.{Tap}
 use Rattle.clocks.specs.declared.wait.WaitState.TheVariants as state
 use Rattle.clocks.specs.declared.wait.WaitState.{WaitState}
-use Rattle.waits.specs.declared.MaybeHalf.TheVariants as half
-use Rattle.waits.specs.declared.MaybeHalf.{MaybeHalf}
-use Rattle.waits.specs.declared.MaybeWait.TheVariants as wait
-use Rattle.waits.specs.declared.MaybeWait.{MaybeWait}
+use Rattle.clocks.specs.declared.wait.ClockWait.{ClockWait}
+use Rattle.waits.specs.declared.HalfWait.{HalfWait}
 
 unfoldable pub source_by : ℕ → Source
 source_by n =
@@ -31,10 +29,10 @@ state_by number count fraction =
     (cond (eqb number 1) (state.Paused count) (state.Ready (record { seconds = count; fraction = fraction })))
 
 -- a wait where the first word isn't 0
-abbrev pub wait_by : ℕ → ℕ → ℕ → ℕ → ℕ → ℕ → MaybeWait
+abbrev pub wait_by : ℕ → ℕ → ℕ → ℕ → ℕ → ℕ → Option ClockWait
 wait_by present source divide number count fraction =
-    cond (eqb present 0) wait.NoWait (wait.Waiting (record { tap = tap_by source divide; state = state_by number count fraction }))
+    cond (eqb present 0) None (Some (record { tap = tap_by source divide; state = state_by number count fraction }))
 
 -- a half wait where the first word isn't 0
-abbrev pub half_by : ℕ → ℕ → ℕ → MaybeHalf
-half_by present count paused = cond (eqb present 0) half.NoHalf (half.Half (record { count = count; paused = not (eqb paused 0) }))
+abbrev pub half_by : ℕ → ℕ → ℕ → Option HalfWait
+half_by present count paused = cond (eqb present 0) None (Some (record { count = count; paused = not (eqb paused 0) }))

@@ -3,9 +3,9 @@
 // number of its refusal, 0 for none, and an answer starts with it.
 #![tactic(auto)]
 
-ghost use Rattle.std.proofs.lemmas.List.Edits.{sets};
-ghost use Rattle.std.specs.Prelude.{cond, [], ◌∷◌, ◌≡◌, ◌%◌, ◌≤◌};
-ghost use Rattle.clock_calls.specs.Told.{Told, moment_number, count_number, truth_number, time_at, truth_words, word_alone};
+ghost use Rattle.std.specs.Prelude.{◌≡◌, ◌%◌, ◌+◌, ◌≤◌, length};
+ghost use Rattle.clock_calls.specs.Sets.{clock_at};
+ghost use Rattle.clock_calls.specs.Told.{Told, time_at};
 ghost use Rattle.clock_calls.specs.Waits.{source_by, tap_by};
 ghost use Rattle.clocks.specs.Tap.{source_number};
 
@@ -13,14 +13,14 @@ pub mod clock_waits;
 pub mod domains;
 pub mod instants;
 pub mod prescalers;
+pub mod put;
 pub mod sets;
 pub mod taps;
 
 use clocks::tap::{Source, Tap};
-use counts::Truth;
-use time::{Clock, Count, Moment, Time};
+use time::{Clock, Time};
 
-// A call that is no peripheral's.
+// A call that is no peripheral's. Its number comes through `probe_answer` of the C interface, so here and in each `call` a switch finds it.
 pub fn answer(number: u64, set: &[u64; 81], args: &[u64; 24], out: &mut [u64; 82]) -> u64
     ensures { Told 10 result out.old out.new }
 {
@@ -52,26 +52,30 @@ pub fn first_time(args: &[u64; 24]) -> Time
     time_at(args, 0)
 }
 
-fn time_at(args: &[u64; 24], at: usize) -> Time
-    requires { at ≤ 22 }
-    ensures { result ≡ time_at args.now at }
+fn time_at(words: &[u64], at: usize) -> Time
+    requires { at + 2 ≤ length words.now }
+    ensures { result ≡ time_at words.now at }
 {
     Time {
-        seconds: args[at],
-        fraction: args[at + 1],
+        seconds: words[at],
+        fraction: words[at + 1],
     }
 }
 
-fn clock_at(args: &[u64; 24]) -> Clock {
+fn clock_at(words: &[u64], at: usize) -> Clock
+    requires { at + 6 ≤ length words.now }
+    ensures { result ≡ clock_at words.now at }
+{
     Clock {
-        start: time_at(args, 0),
-        numerator: args[2],
-        denominator: args[3],
-        ordinal: args[4],
-        fraction: args[5],
+        start: time_at(words, at),
+        numerator: words[at + 2],
+        denominator: words[at + 3],
+        ordinal: words[at + 4],
+        fraction: words[at + 5],
     }
 }
 
+// No TryFrom: a number that stands for no source counts as the last; and an impl of From or TryFrom can stand in the crate of `Source` alone.
 #[tactic(auto, unfolding(crate::specs::Waits::source_by))]
 fn source_of(n: u64) -> Source
     ensures { result ≡ source_by n }
@@ -119,103 +123,4 @@ fn tap_at(args: &[u64; 24], at: usize) -> Tap
     requires { at ≤ 22 }
 {
     tap_of(args[at], args[at + 1])
-}
-
-// The words of an answer that isn't refused, and zeros behind them.
-fn put_nine(
-    a: u64,
-    b: u64,
-    c: u64,
-    d: u64,
-    e: u64,
-    f: u64,
-    g: u64,
-    h: u64,
-    i: u64,
-    out: &mut [u64; 82],
-) -> u64
-    ensures { (result ≡ 0) × Told 10 result out.old out.new × (out.new ≡ sets out.old 0 (0 ∷ a ∷ b ∷ c ∷ d ∷ e ∷ f ∷ g ∷ h ∷ i ∷ [])) }
-{
-    out[0] = 0;
-    out[1] = a;
-    out[2] = b;
-    out[3] = c;
-    out[4] = d;
-    out[5] = e;
-    out[6] = f;
-    out[7] = g;
-    out[8] = h;
-    out[9] = i;
-    0
-}
-
-fn put_time(t: Time, out: &mut [u64; 82]) -> u64
-    ensures { (result ≡ 0) × Told 10 result out.old out.new }
-{
-    put_nine(t.seconds, t.fraction, 0, 0, 0, 0, 0, 0, 0, out)
-}
-
-fn put_moment(m: Moment, out: &mut [u64; 82]) -> u64
-    ensures { (result ≡ moment_number m) × Told 10 result out.old out.new }
-{
-    match m {
-        Moment::At(t) => put_time(t, out),
-        Moment::Refused(n) => put_refusal(n, out),
-    }
-}
-
-fn put_count(c: Count, out: &mut [u64; 82]) -> u64
-    ensures { (result ≡ count_number c) × Told 10 result out.old out.new }
-{
-    match c {
-        Count::Of(n) => put_word(n, out),
-        Count::Refused(n) => put_refusal(n, out),
-    }
-}
-
-pub fn put_truth(t: Truth, out: &mut [u64; 82]) -> u64
-    ensures { (result ≡ truth_number t) × Told 10 result out.old out.new × (out.new ≡ sets out.old 0 (truth_words t)) }
-{
-    match t {
-        Truth::Is(b) => put_bool(b, out),
-        Truth::Refused(n) => put_refusal(n, out),
-    }
-}
-
-pub fn put_word(n: u64, out: &mut [u64; 82]) -> u64
-    ensures { (result ≡ 0) × Told 10 result out.old out.new × (out.new ≡ sets out.old 0 (word_alone n)) }
-{
-    put_nine(n, 0, 0, 0, 0, 0, 0, 0, 0, out)
-}
-
-fn put_bool(b: bool, out: &mut [u64; 82]) -> u64
-    ensures { (result ≡ 0) × Told 10 result out.old out.new × (out.new ≡ sets out.old 0 (word_alone (cond b 1 0))) }
-{
-    put_word(b as u64, out)
-}
-
-pub fn put_refusal(n: u8, out: &mut [u64; 82]) -> u64
-    ensures { (result ≡ n) × Told 10 result out.old out.new × (out.new ≡ sets out.old 0 (n ∷ [])) }
-{
-    let number = n as u64;
-    out[0] = number;
-    number
-}
-
-fn put_tap(tap: Tap, out: &mut [u64; 82]) -> u64
-    ensures { (result ≡ 0) × Told 10 result out.old out.new }
-{
-    let source = tap.source;
-    put_nine(
-        number_of(source),
-        tap.divide as u64,
-        0,
-        0,
-        0,
-        0,
-        0,
-        0,
-        0,
-        out,
-    )
 }

@@ -3,12 +3,10 @@
 // a run come the registers 0 to 7 of the lent one, the levels that it drives, and the same question.
 #![tactic(auto)]
 
-mod same;
-
 use bus::Levels;
 use clocks::{Clocks, Frequencies};
-use iic::{Byte, Ended, Hold, Iic, Pins};
-use same::{same_bytes, same_ends, same_states};
+use iic::{Hold, Iic};
+use refusals::Refusal;
 use time::Time;
 
 // Two peripherals that get the same calls: one lent, one by value.
@@ -54,21 +52,21 @@ fn byte(rt: &impl Print, n: u8) {
     let _ = print!(rt; "{n:02x} ");
 }
 
-fn refusal(rt: &impl Print, n: u8) {
-    let _ = print!(rt; "refused {n} ");
+fn refusal(rt: &impl Print, e: Refusal) {
+    let _ = print!(rt; "refused {} ", e.number());
 }
 
-fn end(rt: &impl Print, e: Ended) {
+fn end(rt: &impl Print, e: Result<(), Refusal>) {
     match e {
-        Ended::Finished => text(rt, b"done "),
-        Ended::Refused(n) => refusal(rt, n),
+        Ok(()) => text(rt, b"done "),
+        Err(e) => refusal(rt, e),
     }
 }
 
-fn answer(rt: &impl Print, a: Byte) {
+fn answer(rt: &impl Print, a: Result<u8, Refusal>) {
     match a {
-        Byte::Is(n) => byte(rt, n),
-        Byte::Refused(n) => refusal(rt, n),
+        Ok(n) => byte(rt, n),
+        Err(e) => refusal(rt, e),
     }
 }
 
@@ -78,8 +76,8 @@ fn levels(rt: &impl Print, l: Levels) {
 
 fn pins(rt: &impl Print, s: Iic) {
     match s.pins() {
-        Pins::NoPins => text(rt, b"- "),
-        Pins::Driven(l) => levels(rt, l),
+        None => text(rt, b"- "),
+        Some(l) => levels(rt, l),
     }
 }
 
@@ -105,21 +103,16 @@ fn pair(
     let both = lent::write_read(h.lent, address, value, time, source, later, k);
     let wrote = h.valued.write(address, value, time, k);
     let was = wrote.state.read(source, later, k);
-    let lent_end = both.ended;
-    let valued_end = wrote.ended;
-    let lent_answer = both.answer;
-    let valued_answer = was.answer;
-    let lent = both.state;
-    let valued = was.state;
-    end(rt, lent_end);
-    answer(rt, lent_answer);
+    end(rt, both.ended);
+    answer(rt, both.answer);
     verdict(
         rt,
-        same_ends(lent_end, valued_end)
-            & same_bytes(lent_answer, valued_answer)
-            & same_states(lent, valued),
+        (both.ended == wrote.answer) & (both.answer == was.answer) & (both.state == was.state),
     );
-    Hosts { lent, valued }
+    Hosts {
+        lent: both.state,
+        valued: was.state,
+    }
 }
 
 fn step(
@@ -147,7 +140,7 @@ fn finish(rt: &impl Print, h: Hosts) {
     four(rt, h.lent, 0);
     four(rt, h.lent, 4);
     pins(rt, h.lent);
-    verdict(rt, same_states(h.lent, h.valued));
+    verdict(rt, h.lent == h.valued);
 }
 
 fn started(s: Iic) -> Hosts {

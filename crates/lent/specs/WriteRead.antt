@@ -3,14 +3,14 @@ use Rattle.std.specs.Prelude.{ℕ}
 use Rattle.time.specs.declared.Time.{Time}
 use Rattle.clocks.specs.declared.Clocks.{Clocks}
 use Rattle.iic.specs.declared.Iic.{Iic}
-use Rattle.iic.specs.declared.Stepped.{Stepped}
-use Rattle.iic.specs.declared.ReadOut.{ReadOut}
+use Rattle.iic.specs.declared.Answered.{Answered}
+use Rattle.iic.specs.Answers.{Stepped}
 use Rattle.iic.specs.Calls.{read_of, write_of}
 use Rattle.lent.specs.declared.Both.{Both}
 
 -- how the write ended, what the read answered, and the state that the read left
-abbrev pub both : Stepped → ReadOut → Both
-both w r = record { ended = w.ended; answer = r.answer; state = r.state }
+abbrev pub both : Stepped → Answered ℕ → Both
+both w r = record { ended = w.answer; answer = r.answer; state = r.state }
 
 abbrev pub then_read : Stepped → ℕ → Time → Clocks → Both
 then_read w source later k = both w (read_of w.state source later k)

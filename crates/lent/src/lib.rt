@@ -6,10 +6,11 @@ ghost use Rattle.iic.specs.Calls.{read_of, write_of};
 ghost use Rattle.lent.specs.WriteRead.{write_read_of};
 
 use clocks::Clocks;
-use iic::{Byte, Ended, Iic};
+use iic::Iic;
+use refusals::Refusal;
 use time::Time;
 
-pub fn read(p: &mut Iic, address: u16, time: Time, clocks: Clocks) -> Byte
+pub fn read(p: &mut Iic, address: u16, time: Time, clocks: Clocks) -> Result<u8, Refusal>
     ensures answer { result ≡ (read_of p.old address time clocks).answer }
     ensures state { p.new ≡ (read_of p.old address time clocks).state }
 {
@@ -19,21 +20,27 @@ pub fn read(p: &mut Iic, address: u16, time: Time, clocks: Clocks) -> Byte
     t.answer
 }
 
-pub fn write(p: &mut Iic, address: u16, value: u8, time: Time, clocks: Clocks) -> Ended
-    ensures ended { result ≡ (write_of p.old address value time clocks).ended }
+pub fn write(
+    p: &mut Iic,
+    address: u16,
+    value: u8,
+    time: Time,
+    clocks: Clocks,
+) -> Result<(), Refusal>
+    ensures ended { result ≡ (write_of p.old address value time clocks).answer }
     ensures state { p.new ≡ (write_of p.old address value time clocks).state }
 {
     let s = *p;
     let t = s.write(address, value, time, clocks);
     *p = t.state;
-    t.ended
+    t.answer
 }
 
 // How a write ended, what the read after it answered, and the state that the two left.
 #[derive(Clone, Copy)]
 pub struct Both {
-    pub ended: Ended,
-    pub answer: Byte,
+    pub ended: Result<(), Refusal>,
+    pub answer: Result<u8, Refusal>,
     pub state: Iic,
 }
 

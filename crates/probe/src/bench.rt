@@ -1,11 +1,11 @@
 // The two functions that are timed, each called with plain words once for an input: the answer is put into lent words, and the
 // number of the refusal is returned, 0 for none.
+ghost use Rattle.refusals.specs.Refusals.{number_ended};
 ghost use Rattle.std.specs.Prelude.{◌≡◌};
-ghost use Rattle.clock_calls.specs.Told.{moment_number, count_number};
 ghost use Rattle.probe.specs.Timed.{clock_of, time_from, moment_in, count_in};
 ghost use Rattle.time.specs.Clock.{after_of, edges_before_of};
 
-use time::{Clock, Count, Moment, Time};
+use time::{Clock, Time};
 
 fn clock_of(seconds: u64, fraction: u64, numerator: u64, denominator: u64) -> Clock
     ensures { result ≡ clock_of seconds fraction numerator denominator }
@@ -19,33 +19,6 @@ fn clock_of(seconds: u64, fraction: u64, numerator: u64, denominator: u64) -> Cl
     }
 }
 
-fn put_moment(m: Moment, out: &mut [u64; 2]) -> u64
-    ensures number { result ≡ moment_number m }
-    ensures words { out.new ≡ moment_in m out.old }
-{
-    match m {
-        Moment::At(t) => {
-            out[0] = t.seconds;
-            out[1] = t.fraction;
-            0
-        }
-        Moment::Refused(n) => n as u64,
-    }
-}
-
-fn put_count(c: Count, out: &mut [u64; 1]) -> u64
-    ensures number { result ≡ count_number c }
-    ensures words { out.new ≡ count_in c out.old }
-{
-    match c {
-        Count::Of(n) => {
-            out[0] = n;
-            0
-        }
-        Count::Refused(n) => n as u64,
-    }
-}
-
 // The time of an edge.
 #[unsafe(no_mangle)]
 pub extern "C" fn probe_after(
@@ -56,13 +29,17 @@ pub extern "C" fn probe_after(
     edges: u64,
     out: &mut [u64; 2],
 ) -> u64
-    ensures number { result ≡ moment_number (after_of (clock_of seconds fraction numerator denominator) edges) }
+    ensures number { result ≡ number_ended (after_of (clock_of seconds fraction numerator denominator) edges) }
     ensures words { out.new ≡ moment_in (after_of (clock_of seconds fraction numerator denominator) edges) out.old }
 {
-    put_moment(
-        clock_of(seconds, fraction, numerator, denominator).after(edges),
-        out,
-    )
+    match clock_of(seconds, fraction, numerator, denominator).after(edges) {
+        Ok(t) => {
+            out[0] = t.seconds;
+            out[1] = t.fraction;
+            0
+        }
+        Err(refusal) => refusal.number() as u64,
+    }
 }
 
 // The count before a limit.
@@ -76,15 +53,18 @@ pub extern "C" fn probe_edges_before(
     limit_fraction: u64,
     out: &mut [u64; 1],
 ) -> u64
-    ensures number { result ≡ count_number (edges_before_of (clock_of seconds fraction numerator denominator) (time_from limit_seconds limit_fraction)) }
+    ensures number { result ≡ number_ended (edges_before_of (clock_of seconds fraction numerator denominator) (time_from limit_seconds limit_fraction)) }
     ensures words { out.new ≡ count_in (edges_before_of (clock_of seconds fraction numerator denominator) (time_from limit_seconds limit_fraction)) out.old }
 {
     let limit = Time {
         seconds: limit_seconds,
         fraction: limit_fraction,
     };
-    put_count(
-        clock_of(seconds, fraction, numerator, denominator).edges_before(limit),
-        out,
-    )
+    match clock_of(seconds, fraction, numerator, denominator).edges_before(limit) {
+        Ok(count) => {
+            out[0] = count;
+            0
+        }
+        Err(refusal) => refusal.number() as u64,
+    }
 }

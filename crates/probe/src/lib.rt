@@ -9,6 +9,7 @@ ghost use Rattle.clock_calls.specs.Told.{Told, Written, time_at, frequencies_at}
 ghost use Rattle.clocks.specs.Clocks.{new_clocks};
 ghost use Rattle.clocks.specs.Moves.{move_system};
 ghost use Rattle.iic.specs.State.{default_iic, with_rates_of};
+ghost use Rattle.refusals.specs.Refusals.{number_ended};
 
 pub mod bench;
 
@@ -28,7 +29,7 @@ pub extern "C" fn probe_answer(
 // A new clock set.
 #[unsafe(no_mangle)]
 pub extern "C" fn probe_new_clocks(args: &[u64; 24], out: &mut [u64; 82]) -> u64
-    ensures { result ≡ (new_clocks (time_at args.now 0) (frequencies_at args.now)).refusal }
+    ensures { result ≡ number_ended (new_clocks (time_at args.now 0) (frequencies_at args.now)).ended }
 {
     clock_calls::taps::new_clocks(args, out)
 }
@@ -40,7 +41,7 @@ pub extern "C" fn probe_advance_system(
     args: &[u64; 24],
     out: &mut [u64; 82],
 ) -> u64
-    ensures { result ≡ (move_system (get_or args.now 0 0) (clocks_at set.now)).refusal }
+    ensures { result ≡ number_ended (move_system (get_or args.now 0 0) (clocks_at set.now)).ended }
 {
     clock_calls::sets::advance(clock_calls::sets::clocks_of(set), args[0], out)
 }
@@ -69,7 +70,7 @@ pub extern "C" fn probe_iic_fresh(state: &mut [u64; 75])
 // The same with the rate set that the state's words hold, and 14 where it is refused.
 #[unsafe(no_mangle)]
 pub extern "C" fn probe_iic_with_rates(state: &mut [u64; 75]) -> u64
-    ensures refusal { result ≡ (with_rates_of (rates_at state.old)).refusal }
+    ensures refusal { result ≡ number_ended (with_rates_of (rates_at state.old)).answer }
     ensures registers { Begins (register_words default_iic.registers) state.new }
 {
     calls::peripheral::with_rates(state)

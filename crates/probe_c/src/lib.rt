@@ -1,13 +1,14 @@
-// The calls by number over words as a static library, for the comparison.
+// The calls by number over words as a static library, for the comparison. Each is `probe`'s once more, under its C name and signature.
 #![tactic(auto)]
 
 ghost use Rattle.std.specs.Prelude.{◌≡◌, get_or};
 ghost use Rattle.calls.specs.States.{Begins, rates_at, register_words};
 ghost use Rattle.clock_calls.specs.Sets.{clocks_at};
-ghost use Rattle.clock_calls.specs.Told.{Told, Written, time_at, frequencies_at, moment_number, count_number};
+ghost use Rattle.clock_calls.specs.Told.{Told, Written, time_at, frequencies_at};
 ghost use Rattle.clocks.specs.Clocks.{new_clocks};
 ghost use Rattle.clocks.specs.Moves.{move_system};
 ghost use Rattle.iic.specs.State.{default_iic, with_rates_of};
+ghost use Rattle.refusals.specs.Refusals.{number_ended};
 ghost use Rattle.probe.specs.Timed.{clock_of, time_from, moment_in, count_in};
 ghost use Rattle.time.specs.Clock.{after_of, edges_before_of};
 
@@ -27,7 +28,7 @@ pub extern "C" fn probe_answer(
 // A new clock set.
 #[unsafe(no_mangle)]
 pub extern "C" fn probe_new_clocks(args: &[u64; 24], out: &mut [u64; 82]) -> u64
-    ensures { result ≡ (new_clocks (time_at args.now 0) (frequencies_at args.now)).refusal }
+    ensures { result ≡ number_ended (new_clocks (time_at args.now 0) (frequencies_at args.now)).ended }
 {
     probe::probe_new_clocks(args, out)
 }
@@ -39,7 +40,7 @@ pub extern "C" fn probe_advance_system(
     args: &[u64; 24],
     out: &mut [u64; 82],
 ) -> u64
-    ensures { result ≡ (move_system (get_or args.now 0 0) (clocks_at set.now)).refusal }
+    ensures { result ≡ number_ended (move_system (get_or args.now 0 0) (clocks_at set.now)).ended }
 {
     probe::probe_advance_system(set, args, out)
 }
@@ -68,7 +69,7 @@ pub extern "C" fn probe_iic_fresh(state: &mut [u64; 75])
 // The same with the rate set that the state's words hold, and 14 where it is refused.
 #[unsafe(no_mangle)]
 pub extern "C" fn probe_iic_with_rates(state: &mut [u64; 75]) -> u64
-    ensures refusal { result ≡ (with_rates_of (rates_at state.old)).refusal }
+    ensures refusal { result ≡ number_ended (with_rates_of (rates_at state.old)).answer }
     ensures registers { Begins (register_words default_iic.registers) state.new }
 {
     probe::probe_iic_with_rates(state)
@@ -125,7 +126,7 @@ pub extern "C" fn probe_after(
     edges: u64,
     out: &mut [u64; 2],
 ) -> u64
-    ensures number { result ≡ moment_number (after_of (clock_of seconds fraction numerator denominator) edges) }
+    ensures number { result ≡ number_ended (after_of (clock_of seconds fraction numerator denominator) edges) }
     ensures words { out.new ≡ moment_in (after_of (clock_of seconds fraction numerator denominator) edges) out.old }
 {
     probe::bench::probe_after(seconds, fraction, numerator, denominator, edges, out)
@@ -142,7 +143,7 @@ pub extern "C" fn probe_edges_before(
     limit_fraction: u64,
     out: &mut [u64; 1],
 ) -> u64
-    ensures number { result ≡ count_number (edges_before_of (clock_of seconds fraction numerator denominator) (time_from limit_seconds limit_fraction)) }
+    ensures number { result ≡ number_ended (edges_before_of (clock_of seconds fraction numerator denominator) (time_from limit_seconds limit_fraction)) }
     ensures words { out.new ≡ count_in (edges_before_of (clock_of seconds fraction numerator denominator) (time_from limit_seconds limit_fraction)) out.old }
 {
     probe::bench::probe_edges_before(

@@ -2,11 +2,10 @@
 #![tactic(auto)]
 
 use bus::Levels;
-use clocks::wait::Deadline;
 use clocks::{Clocks, Frequencies};
-use counts::Truth;
-use iic::{Iic, Pins};
-use time::{Clock, Moment, Time};
+use iic::Iic;
+use refusals::Refusal;
+use time::{Clock, Time};
 
 fn at(fraction: u64) -> Time {
     Time {
@@ -39,8 +38,8 @@ fn levels(rt: &impl Print, l: Levels) {
 // The levels that are driven, `-` while none are.
 fn pins(rt: &impl Print, s: Iic) {
     match s.pins() {
-        Pins::NoPins => text(rt, b"-"),
-        Pins::Driven(l) => levels(rt, l),
+        None => text(rt, b"-"),
+        Some(l) => levels(rt, l),
     }
 }
 
@@ -49,22 +48,22 @@ fn moment(rt: &impl Print, t: Time) {
     let _ = print!(rt; "{seconds}:{fraction:016x}");
 }
 
-fn refusal(rt: &impl Print, n: u8) {
-    let _ = print!(rt; "refused {n}");
+fn refusal(rt: &impl Print, e: Refusal) {
+    let _ = print!(rt; "refused {}", e.number());
 }
 
 fn deadline(rt: &impl Print, s: Iic, k: Clocks) {
     match s.deadline(k) {
-        Deadline::Never => text(rt, b"-"),
-        Deadline::At(t) => moment(rt, t),
-        Deadline::Refused(n) => refusal(rt, n),
+        Ok(None) => text(rt, b"-"),
+        Ok(Some(t)) => moment(rt, t),
+        Err(e) => refusal(rt, e),
     }
 }
 
-fn truth(rt: &impl Print, t: Truth) {
+fn truth(rt: &impl Print, t: Result<bool, Refusal>) {
     match t {
-        Truth::Is(b) => digit(rt, b),
-        Truth::Refused(n) => refusal(rt, n),
+        Ok(b) => digit(rt, b),
+        Err(e) => refusal(rt, e),
     }
 }
 
@@ -123,8 +122,8 @@ fn exact(rt: &impl Print) {
         fraction: 0,
     };
     match third.after(3) {
-        Moment::At(t) => moment(rt, t),
-        Moment::Refused(n) => refusal(rt, n),
+        Ok(t) => moment(rt, t),
+        Err(e) => refusal(rt, e),
     }
     text(rt, b"\n");
 }

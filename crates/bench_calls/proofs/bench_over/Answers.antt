@@ -4,7 +4,7 @@ use Rattle.bench_calls.proofs.bench_over.Goals as goal
 
 pub returns : goal.returns
 returns c =
-    simp (← c.clocks_of.ensures)
+    simp (← c.clocks_of.ensures, c.number_ended.ensures)
     (handed_back
     c.play-ended.result
     _

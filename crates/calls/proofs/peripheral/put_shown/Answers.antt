@@ -1,7 +1,9 @@
-use Rattle.clock_calls.proofs.Told.{told}
 use lib.Dec.{lit<}
 use mathlib.Core.List.{[], ◌∷◌}
+use mathlib.Core.Path.{refl}
+use native.Mathlib.Omega.{arith}
 use Rattle.calls.proofs.peripheral.put_shown.Goals as goal
 
 pub returns-clause-told : goal.returns-clause-told
-returns-clause-told c = told c.args.out.now (_ ∷ _ ∷ _ ∷ _ ∷ _ ∷ _ ∷ _ ∷ _ ∷ _ ∷ _ ∷ _ ∷ _ ∷ _ ∷ []) (lit< tt)
+returns-clause-told c =
+    record { written = record { words = _ ∷ _ ∷ _ ∷ _ ∷ _ ∷ _ ∷ _ ∷ _ ∷ _ ∷ _ ∷ _ ∷ _ ∷ _ ∷ []; few = lit< tt; is = refl }; none = λ p. absurd (omega arith) }
