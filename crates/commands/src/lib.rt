@@ -29,13 +29,13 @@ pub fn read_full<R: Read>(reader: &mut R, buf: &mut [u8]) -> usize
     done
 }
 
-// Whether there is an argument at a place.
+// Whether there is an argument at a place. No clause says when there is: std's contract of `arg` says only how many bytes it writes.
 pub fn is_given(rt: &impl Env, at: usize) -> bool {
     let mut word = [0u8; 1];
     !matches!(rt.arg(at, &mut word), Err(FillError::NotPresent))
 }
 
-// Says one line of a program of that name.
+// Says one line of a program of that name. No clause: what is printed leaves nothing behind that one could speak of.
 pub fn say(rt: &impl Eprint, name: &str, text: impl Display + Drop) {
     let _ = eprintln!(rt; "{name}: {text}");
 }
