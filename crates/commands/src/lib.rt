@@ -1,17 +1,16 @@
-// What the programs of the commands share: reading the input, asking for arguments, and telling why nothing more is written.
+// What the programs of the commands share: reading the input, asking for arguments, and the exit status.
 #![tactic(auto)]
 
 ghost use Rattle.std.specs.Prelude.{◌≡◌, ◌≤◌, length, take};
 ghost use Rattle.std.specs.Io.KnownBytes.{Consumes};
 ghost use Rattle.std.specs.Process.{exit_status};
+ghost use Rattle.commands.specs.Arguments.{given_of};
 ghost use Rattle.commands.specs.Status.{status_of};
 
 use std::env::FillError;
-use std::fmt::Display;
 use std::io;
 use std::io::{ErrorKind, Read};
 use std::process::ExitCode;
-use std::rt::Env;
 
 // Reads until `buf` is full, the input ends or a read fails, and gives how many bytes it put at the start of `buf`.
 pub fn read_full<R: Read>(reader: &mut R, buf: &mut [u8]) -> usize
@@ -29,15 +28,11 @@ pub fn read_full<R: Read>(reader: &mut R, buf: &mut [u8]) -> usize
     done
 }
 
-// Whether there is an argument at a place. No clause says when there is: std's contract of `arg` says only how many bytes it writes.
-pub fn is_given(rt: &impl Env, at: usize) -> bool {
-    let mut word = [0u8; 1];
-    !matches!(rt.arg(at, &mut word), Err(FillError::NotPresent))
-}
-
-// Says one line of a program of that name. No clause: what is printed leaves nothing behind that one could speak of.
-pub fn say(rt: &impl Eprint, name: &str, text: impl Display + Drop) {
-    let _ = eprintln!(rt; "{name}: {text}");
+// Whether an argument is there, by what asking for it gave: one that is longer than the room it was given is.
+pub fn is_given(asked: Result<usize, FillError>) -> bool
+    ensures { result ≡ given_of asked }
+{
+    !matches!(asked, Err(FillError::NotPresent))
 }
 
 // The exit status of a program of that name, by whether all could be written: it says that standard output can't be written, or nothing where nobody reads
@@ -51,7 +46,7 @@ pub fn exit_code(rt: &impl Eprint, name: &str, done: io::Result<()>) -> ExitCode
         Err(error) => match error.kind() {
             ErrorKind::BrokenPipe => ExitCode::from(141),
             _ => {
-                say(rt, name, "standard output can't be written");
+                let _ = eprintln!(rt; "{name}: standard output can't be written");
                 ExitCode::SUCCESS
             }
         },

@@ -2,7 +2,7 @@
 // is refused, with the line or the lowest address.
 #![tactic(auto)]
 
-use commands::{exit_code, is_given, read_full, say};
+use commands::{exit_code, is_given, read_full};
 use map::Map;
 use map::reading::{address, load};
 use std::io;
@@ -16,7 +16,7 @@ const NAME: &str = "map";
 // How many arguments there are, the program's own name among them.
 fn arg_count(rt: &impl Env) -> usize {
     for i in 0..usize::MAX {
-        if !is_given(rt, i) {
+        if !is_given(rt.arg(i, &mut [0; 1])) {
             return i;
         }
     }
@@ -44,7 +44,7 @@ fn answer(rt: &(impl Print + Eprint), map: Map, address: u16) -> io::Result<()> 
         Ok(Some(unit)) => println!(rt; "{unit}"),
         Ok(None) => println!(rt; "-"),
         Err(fault) => {
-            say(rt, NAME, fault);
+            let _ = eprintln!(rt; "{NAME}: {fault}");
             Ok(())
         }
     }
@@ -63,7 +63,7 @@ fn look_up(rt: &(impl Env + Print + Eprint), text: &[u8], count: usize) -> io::R
     match load(text) {
         Ok(map) => answer_all(rt, map, count),
         Err(refused) => {
-            say(rt, NAME, refused.fault);
+            let _ = eprintln!(rt; "{NAME}: {}", refused.fault);
             Ok(())
         }
     }
@@ -73,7 +73,7 @@ fn look_up(rt: &(impl Env + Print + Eprint), text: &[u8], count: usize) -> io::R
 fn main(rt: HostRuntime) -> ExitCode {
     let count = arg_count(&rt);
     if !all_addresses(&rt, count) {
-        say(&rt, NAME, "ADDRESS is four lower-case hexadecimal digits");
+        let _ = eprintln!(rt; "{NAME}: ADDRESS is four lower-case hexadecimal digits");
         return ExitCode::SUCCESS;
     }
     let mut reader = rt.reader();
@@ -81,7 +81,7 @@ fn main(rt: HostRuntime) -> ExitCode {
     let n = read_full(&mut reader, &mut room);
     let mut rest = [0u8; 4096];
     if reader.read(&mut rest).is_err() {
-        say(&rt, NAME, "standard input can't be read");
+        let _ = eprintln!(rt; "{NAME}: standard input can't be read");
         return ExitCode::SUCCESS;
     }
     exit_code(&rt, NAME, look_up(&rt, &room[..n], count))

@@ -5,7 +5,7 @@
 ghost use Rattle.std.specs.Prelude.{◌≡◌, ◌-◌, ◌≤◌, IfOk, IfSome, length, min, take, drop};
 
 use answers::Output;
-use commands::{exit_code, say};
+use commands::exit_code;
 use player::Player;
 use std::io;
 use std::io::Read;
@@ -98,7 +98,7 @@ fn next_turn(
 {
     let have = begun.have;
     let Ok(got) = reader.read(&mut input[have..]) else {
-        say(rt, NAME, "standard input can't be read");
+        let _ = eprintln!(rt; "{NAME}: standard input can't be read");
         return Ok(None);
     };
     let n = have + got;

@@ -5,7 +5,7 @@
 ghost use Rattle.std.specs.Prelude.{◌≡◌, length};
 
 use answers::trace_clocks;
-use commands::{exit_code, is_given, read_full, say};
+use commands::{exit_code, is_given, read_full};
 use refusals::Refusal;
 use std::io;
 use std::io::Read;
@@ -22,7 +22,9 @@ fn tell(rt: &impl Eprint, ended: Result<(), Refusal>, lines: u64) {
                 "bench: 6, the answer lines are more than 262144 bytes: script lines answered: {lines}"
             );
         }
-        Err(Refusal::Peripherals) => say(rt, NAME, "15, a bench has 1 to 4 peripherals"),
+        Err(Refusal::Peripherals) => {
+            let _ = eprintln!(rt; "{NAME}: 15, a bench has 1 to 4 peripherals");
+        }
         Err(Refusal::Visits) => {
             let _ = eprintln!(rt;
                 "bench: 16, there would be more than 65536 visits: script lines answered: {lines}"
@@ -53,24 +55,22 @@ fn play_input(rt: &(impl Input + Print + Eprint), count: usize) -> io::Result<()
     let mut script = room();
     let used = read_full(&mut reader, &mut script);
     let mut rest = [0u8; 4096];
-    match reader.read(&mut rest) {
-        Err(_) => say(rt, NAME, "standard input can't be read"),
+    let _ = match reader.read(&mut rest) {
+        Err(_) => eprintln!(rt; "{NAME}: standard input can't be read"),
         Ok(0) => return play(rt, count, &script[..used]),
-        Ok(_) => say(rt, NAME, "the script is longer than 262144 bytes"),
-    }
+        Ok(_) => eprintln!(rt; "{NAME}: the script is longer than 262144 bytes"),
+    };
     Ok(())
 }
 
 fn main(rt: HostRuntime) -> ExitCode {
     let mut word = [0u8; 4096];
     let played = match (rt.arg(1, &mut word), lines::reading::digit(word[0], 10)) {
-        (Ok(1), Some(count)) if !is_given(&rt, 2) => play_input(&rt, count as usize),
+        (Ok(1), Some(count)) if !is_given(rt.arg(2, &mut [0; 1])) => {
+            play_input(&rt, count as usize)
+        }
         _ => {
-            say(
-                &rt,
-                NAME,
-                "the number of peripherals, a decimal digit, is wanted",
-            );
+            let _ = eprintln!(rt; "{NAME}: the number of peripherals, a decimal digit, is wanted");
             Ok(())
         }
     };

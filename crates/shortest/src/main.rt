@@ -2,9 +2,9 @@
 // is the argument, of at most 256 lines, or 32 with `--leaflet`; or says on standard error, in one line, why there is none.
 #![tactic(auto)]
 
-ghost use Rattle.std.specs.Prelude.{◌≤◌, length};
+ghost use Rattle.std.specs.Prelude.{◌≤◌, IfOk, length};
 
-use commands::{exit_code, is_given, say};
+use commands::{exit_code, is_given};
 use lines::reading::digit;
 use search::Unfound;
 use std::io;
@@ -73,7 +73,9 @@ fn hold(trace: &mut [u8], held: Held, part: &[u8]) -> Held
 }
 
 // The bytes held of a trace that is read until it ends or the room does.
-fn read_trace<'a>(reader: &mut impl Read, room: &'a mut [u8]) -> io::Result<&'a [u8]> {
+fn read_trace<'a>(reader: &mut impl Read, room: &'a mut [u8]) -> io::Result<&'a [u8]>
+    ensures { IfOk result (λ trace. length trace.now ≤ length room.old) }
+{
     let mut part = [0u8; 4096];
     let mut held = Held { used: 0, line: 0 };
     for _ in 0..u64::MAX {
@@ -108,7 +110,7 @@ fn search_for(rt: &(impl Input + Print + Eprint), number: u8, limit: u16) -> io:
     let mut reader = rt.reader();
     let mut room = [0u8; 65536];
     let Ok(trace) = read_trace(&mut reader, &mut room) else {
-        say(rt, NAME, "standard input can't be read");
+        let _ = eprintln!(rt; "{NAME}: standard input can't be read");
         return Ok(());
     };
     answer(rt, trace, number, limit)
@@ -121,12 +123,12 @@ fn search_by(rt: &(impl Env + Input + Print + Eprint), at: usize, limit: u16) ->
     let mut word = [0u8; 4096];
     let n = rt.arg(at, &mut word).unwrap_or(0);
     let asked = number_of(&word[..n]);
-    if !is_given(rt, at) | is_given(rt, at + 1) {
-        say(rt, NAME, "[--leaflet] NUMBER is wanted");
+    if !is_given(rt.arg(at, &mut [0; 1])) | is_given(rt.arg(at + 1, &mut [0; 1])) {
+        let _ = eprintln!(rt; "{NAME}: [--leaflet] NUMBER is wanted");
         return Ok(());
     }
     let Some(number) = asked else {
-        say(rt, NAME, "NUMBER is a decimal number from 0 to 255");
+        let _ = eprintln!(rt; "{NAME}: NUMBER is a decimal number from 0 to 255");
         return Ok(());
     };
     search_for(rt, number, limit)
