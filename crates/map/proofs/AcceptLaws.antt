@@ -102,8 +102,8 @@ check_means rs = by (ltb (lowest (in_two rs)) addresses) refl (ltb (lowest (in_n
   where
     by : (t : Bool) → ltb (lowest (in_two rs)) addresses ≡ t → (u : Bool) → ltb (lowest (in_none rs)) addresses ≡ u
         → Means rs (cond t (Err (InTwo (lowest (in_two rs)))) (cond u (Err (InNone (lowest (in_none rs)))) (Ok tt)))
-    by true e u f = two_at rs (ltb-true (lowest (in_two rs)) addresses e)
-    by false e true f = none_at rs (ltb-false (lowest (in_two rs)) addresses e) (ltb-true (lowest (in_none rs)) addresses f)
+    by true e u f = (refl, two_at rs (ltb-true (lowest (in_two rs)) addresses e))
+    by false e true f = (refl, none_at rs (ltb-false (lowest (in_two rs)) addresses e) (ltb-true (lowest (in_none rs)) addresses f))
     by false e false f = λ a h. let p = none_two rs (ltb-false (lowest (in_two rs)) addresses e) a h in let q = some_one rs (ltb-false (lowest (in_none rs)) addresses f) a h in omega arith
 
 -- ## The lookup

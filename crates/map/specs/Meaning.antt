@@ -4,7 +4,8 @@ use Rattle.lines.specs.Lines.{lines_in}
 use Rattle.map.specs.declared.Range.{Range}
 use Rattle.map.specs.declared.Fault.{Fault}
 use Rattle.map.specs.declared.Fault.TheVariants.{Line, InTwo, InNone}
-use Rattle.map.specs.Map.{addresses, holders_of}
+use Rattle.refusals.specs.Refusals.{number_of}
+use Rattle.map.specs.Map.{addresses, fault_refusal, holders_of}
 use Rattle.map.specs.Format.{InRange, spell_ranges}
 
 -- ## The lowest address
@@ -42,8 +43,8 @@ pub record NoneAt (rs : List Range) (a : ℕ) : Type 0 where
 -- what a check of sound ranges says: "19 when some address lies in two lines; after it, 20 when some address lies in none"
 abbrev pub Means : List Range → Result ⊤ Fault → Type 0
 Means rs (Ok _) = InOne rs
-Means rs (Err (InTwo a)) = TwoAt rs a
-Means rs (Err (InNone a)) = NoneAt rs a
+Means rs (Err (InTwo a)) = (number_of (fault_refusal (InTwo a)) ≡ 19) × TwoAt rs a
+Means rs (Err (InNone a)) = (number_of (fault_refusal (InNone a)) ≡ 20) × NoneAt rs a
 Means rs (Err (Line n)) = ⊥
 
 -- ## A text

@@ -19,5 +19,5 @@ module _ (ls : List (List ℕ)) (number small large : ℕ) (h : small ≤ large)
     where
       up : (x : Result Run Unfound) → Answers ls number small x → Answers ls number large x
       up (Ok run) w = (omega arith, w.1)
-      up (Err LongTrace) w = absurd (omega (arith, w))
-      up (Err NotDrawn) w = (omega arith, w.1)
+      up (Err LongTrace) w = absurd (omega (arith, w.0))
+      up (Err NotDrawn) w = (omega arith, w.1, w.2)

@@ -202,7 +202,7 @@ module _ {ls : List (List ℕ)} {number tried : ℕ} {b : Best} (g : Sought ls n
 pub sought_answers : {ls : List (List ℕ)} {number tried : ℕ} (first : Option ℕ) (most limit : ℕ) → Sought ls number tried first most → length ls ≤ tried → 0 < number → length ls ≤ limit
     → Answers ls number limit (run_from first most)
 sought_answers None most limit g all real fits =
-    (fits, λ f m d. g.shorter (f - 1) m (omega (arith, d.within, d.some)) d.some (omega (arith, d.within, g.none refl)) d.within d.draws)
+    (fits, λ f m d. g.shorter (f - 1) m (omega (arith, d.within, d.some)) d.some (omega (arith, d.within, g.none refl)) d.within d.draws, refl)
 sought_answers (Some first) most limit g all real fits =
     let h = g.found first refl in (
       fits,

@@ -50,7 +50,7 @@ module _ (ls : List (List ℕ)) (number limit : ℕ) (real : 0 < number) (fits :
 
   least_answers : (n more : ℕ) → 0 < n → n + more ≡ length ls + 1 → ((f m : ℕ) → Draws ls number f m → n ≤ m) → Answers ls number limit (least_of ls number n more)
   unfolding least_of
-  least_answers n zero some sum short = (fits, λ f m d. let e = short f m d in let w = d.within in omega arith)
+  least_answers n zero some sum short = (fits, λ f m d. let e = short f m d in let w = d.within in omega arith, refl)
   least_answers n (suc more) some sum short =
       earliest_answers n (least_of ls number (n + 1) more) 1 (length ls + 1 - n) some (omega arith) (omega arith) short (λ f d. let b = d.begins in omega arith)
       (λ none. least_answers (n + 1) more (omega arith) (omega arith) (λ f m d. longer none f m d (short f m d)))
@@ -66,8 +66,8 @@ unfolding shortest_of
 shortest_answers ls number limit = by (ltb limit (length ls)) (eqb number 0) refl refl
   where
     by : (t u : Bool) → ltb limit (length ls) ≡ t → eqb number 0 ≡ u → Answers ls number limit (cond t (Err LongTrace) (cond u (Err NotDrawn) (least_of ls number 1 (length ls))))
-    by true u e d = ltb-true _ _ e
-    by false true e d = (ltb-false _ _ e, λ f m w. let z = eqb-true number 0 d in let p = w.refuses in omega arith)
+    by true u e d = (ltb-true _ _ e, refl)
+    by false true e d = (ltb-false _ _ e, λ f m w. let z = eqb-true number 0 d in let p = w.refuses in omega arith, refl)
     by false false e d = least_answers ls number limit (let ne = eqb-false number 0 d in omega arith) (ltb-false _ _ e) 1 (length ls) (omega arith) (omega arith) (λ f m w. w.some)
 
 -- ## One answer
@@ -87,13 +87,13 @@ module _ (ls : List (List ℕ)) (number : ℕ) where
   -- the answer is one
   pub answer_one : (limit : ℕ) (a b : Result Run Unfound) → Answers ls number limit a → Answers ls number limit b → a ≡ b
   answer_one limit (Ok a) (Ok b) p q = ap (λ (x : Run). Ok x) (least_one a b p.1 q.1)
-  answer_one limit (Ok a) (Err LongTrace) p q = absurd (omega (arith, p.0, q))
+  answer_one limit (Ok a) (Err LongTrace) p q = absurd (omega (arith, p.0, q.0))
   answer_one limit (Ok a) (Err NotDrawn) p q = absurd (q.1 a.first a.length p.1.is)
-  answer_one limit (Err LongTrace) (Ok b) p q = absurd (omega (arith, p, q.0))
+  answer_one limit (Err LongTrace) (Ok b) p q = absurd (omega (arith, p.0, q.0))
   answer_one limit (Err NotDrawn) (Ok b) p q = absurd (p.1 b.first b.length q.1.is)
   answer_one limit (Err LongTrace) (Err LongTrace) p q = refl
-  answer_one limit (Err LongTrace) (Err NotDrawn) p q = absurd (omega (arith, p, q.0))
-  answer_one limit (Err NotDrawn) (Err LongTrace) p q = absurd (omega (arith, p.0, q))
+  answer_one limit (Err LongTrace) (Err NotDrawn) p q = absurd (omega (arith, p.0, q.0))
+  answer_one limit (Err NotDrawn) (Err LongTrace) p q = absurd (omega (arith, p.0, q.0))
   answer_one limit (Err NotDrawn) (Err NotDrawn) p q = refl
 
 -- ## What the definition gives
@@ -108,17 +108,17 @@ module _ (ls : List (List ℕ)) (number : ℕ) where
 
   -- 17 exactly where there are more lines than the limit
   pub beyond : (limit : ℕ) → limit < length ls → shortest_of ls number limit ≡ Err LongTrace
-  beyond limit h = sym (answer_is limit (Err LongTrace) h)
+  beyond limit h = sym (answer_is limit (Err LongTrace) (h, refl))
 
   pub beyond_only : (limit : ℕ) → shortest_of ls number limit ≡ Err LongTrace → limit < length ls
-  beyond_only limit e = answers limit (Err LongTrace) e
+  beyond_only limit e = (answers limit (Err LongTrace) e).0
 
   -- after it, 18 exactly where no run draws the number
   pub never : (limit : ℕ) → length ls ≤ limit → Never ls number → shortest_of ls number limit ≡ Err NotDrawn
-  never limit h n = sym (answer_is limit (Err NotDrawn) (h, n))
+  never limit h n = sym (answer_is limit (Err NotDrawn) (h, n, refl))
 
   pub never_only : (limit : ℕ) → shortest_of ls number limit ≡ Err NotDrawn → (length ls ≤ limit) × Never ls number
-  never_only limit e = answers limit (Err NotDrawn) e
+  never_only limit e = let w = answers limit (Err NotDrawn) e in (w.0, w.1)
 
   -- else the least run
   pub least : (limit : ℕ) (run : Run) → length ls ≤ limit → Least ls number run.first run.length → shortest_of ls number limit ≡ Ok run

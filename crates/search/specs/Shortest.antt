@@ -57,8 +57,8 @@ Never ls number = (f m : ℕ) → Draws ls number f m → ⊥
 -- what the search answers for lines, a number and a limit: 17 where there are more lines than that, then 18 where no run draws the number
 abbrev pub Answers : List (List ℕ) → ℕ → ℕ → Result Run Unfound → Type 0
 Answers ls number limit (Ok run) = (length ls ≤ limit) × Least ls number run.first run.length
-Answers ls number limit (Err LongTrace) = limit < length ls
-Answers ls number limit (Err NotDrawn) = (length ls ≤ limit) × Never ls number
+Answers ls number limit (Err LongTrace) = (limit < length ls) × (number_of (refusal_of LongTrace) ≡ 17)
+Answers ls number limit (Err NotDrawn) = (length ls ≤ limit) × Never ls number × (number_of (refusal_of NotDrawn) ≡ 18)
 
 -- ## The same as one answer, lengths first and then first lines: `shortest_answers` in ShortestLaws.antt
 

@@ -33,6 +33,11 @@ refusal_place refused.Peripherals = 0
 refusal_place (refused.Map f) = fault_place f
 refusal_place (refused.Call n) = 0
 
+-- what is answered, with the refusal alone
+abbrev pub without_place : {A : Type 0} → Result A Refused → Result A Refusal
+without_place (Ok v) = Ok v
+without_place (Err r) = Err (refusal_of r)
+
 -- ## Whom a call reaches
 
 -- "a unit that the bench lacks"

@@ -12,14 +12,15 @@ use Rattle.lines.specs.NumberLaws.{both}
 use Rattle.time.specs.declared.Time.{Time}
 use Rattle.clocks.specs.declared.Clocks.{Clocks}
 use Rattle.iic.specs.declared.Iic.{Iic}
+use Rattle.refusals.specs.declared.Refusal.{Refusal}
 use Rattle.iic.specs.State.{default_iic}
 use Rattle.iic.specs.Calls.{read_of, write_of}
 use Rattle.map.specs.declared.Map.{Map}
 use Rattle.map.specs.declared.Fault.{Fault}
 use Rattle.through.specs.declared.Refused.{Refused}
 use Rattle.through.specs.declared.Refused.TheVariants as refused
-use Rattle.map.specs.Map.{check_of, lookup_of, ranges_of, unit_at}
-use Rattle.through.specs.Through.{Reaches, among, of_map, called, at_target, target_of, read_through, write_through}
+use Rattle.map.specs.Map.{check_of, fault_place, fault_refusal, lookup_of, ranges_of, unit_at}
+use Rattle.through.specs.Through.{Reaches, among, of_map, called, at_target, refusal_of, refusal_place, target_of, read_through, without_place, write_through}
 
 -- ## Whom a call reaches
 
@@ -60,12 +61,17 @@ pub accepted_target : (m : Map) (count a : ℕ) → There count → check_of m �
 unfolding lookup_of
 accepted_target m count a t e = there_finds m count a t ∙ ap (λ (c : Result ⊤ Fault). result_map_both (among count) of_map (result_and c (Ok (unit_at (ranges_of m) a)))) e
 
--- and where it isn't, its refusal stands before the call's own
-pub refused_first : (m : Map) (count a : ℕ) (f : Fault) → There count → check_of m ≡ Err f → target_of m count a ≡ Err (of_map f)
+-- and where it isn't, its refusal stands before the call's own, with the map's number and its line or address
+pub refused_first : (m : Map) (count a : ℕ) (f : Fault) → There count → check_of m ≡ Err f
+    → (target_of m count a ≡ Err (of_map f)) × (refusal_of (of_map f) ≡ fault_refusal f) × (refusal_place (of_map f) ≡ fault_place f)
 unfolding lookup_of
-refused_first m count a f t e = there_finds m count a t ∙ ap (λ (c : Result ⊤ Fault). result_map_both (among count) of_map (result_and c (Ok (unit_at (ranges_of m) a)))) e
+refused_first m count a f t e = (there_finds m count a t ∙ ap (λ (c : Result ⊤ Fault). result_map_both (among count) of_map (result_and c (Ok (unit_at (ranges_of m) a)))) e, refl, refl)
 
 -- ## What is done
+
+-- a call's own refusal has no place
+pub no_place : (n : Refusal) → refusal_place (refused.Call n) ≡ 0
+no_place n = refl
 
 module _ (states : List Iic) (long : length states ≡ 4) (m : Map) (count a : ℕ) (now : Time) (k : Clocks) where
   module _ (u : ℕ) (reached : target_of m count a ≡ Ok (Some u)) where
@@ -76,16 +82,26 @@ module _ (states : List Iic) (long : length states ≡ 4) (m : Map) (count a : �
     in_states = let h : u < 4 = subst (Reaches 4) reached (target_below m count a) in omega arith
 
     pub read_reached : ((read_through m count states a now k).answer ≡ called (read_of unit a now k).answer) × (get_or (read_through m count states a now k).states u default_iic ≡ (read_of unit a now k).state)
+        × (without_place (read_through m count states a now k).answer ≡ (read_of unit a now k).answer)
     unfolding read_through
     read_reached =
         let e = ap (at_target states 255 (λ s. read_of s a now k)) reached in
-        (ap (λ r. r.answer) e, ap (λ r. get_or r.states u default_iic) e ∙ get_or-set_same states u (read_of unit a now k).state default_iic in_states)
+        (ap (λ r. r.answer) e, ap (λ r. get_or r.states u default_iic) e ∙ get_or-set_same states u (read_of unit a now k).state default_iic in_states, ap (λ r. without_place r.answer) e ∙ own (read_of unit a now k).answer)
+      where
+        own : (r : Result ℕ Refusal) → without_place (called r) ≡ r
+        own (Ok v) = refl
+        own (Err n) = refl
 
     pub write_reached : (value : ℕ) → ((write_through m count states a value now k).answer ≡ called (write_of unit a value now k).answer) × (get_or (write_through m count states a value now k).states u default_iic ≡ (write_of unit a value now k).state)
+        × (without_place (write_through m count states a value now k).answer ≡ (write_of unit a value now k).answer)
     unfolding write_through
     write_reached value =
         let e = ap (at_target states tt (λ s. write_of s a value now k)) reached in
-        (ap (λ r. r.answer) e, ap (λ r. get_or r.states u default_iic) e ∙ get_or-set_same states u (write_of unit a value now k).state default_iic in_states)
+        (ap (λ r. r.answer) e, ap (λ r. get_or r.states u default_iic) e ∙ get_or-set_same states u (write_of unit a value now k).state default_iic in_states, ap (λ r. without_place r.answer) e ∙ own (write_of unit a value now k).answer)
+      where
+        own : (r : Result ⊤ Refusal) → without_place (called r) ≡ r
+        own (Ok v) = refl
+        own (Err n) = refl
 
   module _ (v : ℕ) (other : target_of m count a ≡ Ok (Some v) → ⊥) where
     other_unit : (t : Target) → target_of m count a ≡ t → (u : ℕ) → t ≡ Ok (Some u) → v ≡ u → ⊥

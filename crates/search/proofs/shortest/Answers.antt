@@ -20,12 +20,12 @@ module _ (ls : List (List ℕ)) (number limit : ℕ) (found : Result Run Unfound
   met a e w h = (e ∙ answer_is ls number limit a w, subst (λ (x : Result Run Unfound). Answers ls number limit x) (sym e) w, h)
 
 pub returns-then-limit-lines : goal.returns-then-limit-lines
-returns-then-limit-lines c = let n = c.count_lines-lines.ensures in met _ _ _ _ 0 (Err LongTrace) refl (omega arith) (omega arith)
+returns-then-limit-lines c = let n = c.count_lines-lines.ensures in met _ _ _ _ 0 (Err LongTrace) refl (omega arith, refl) (omega arith)
 
 pub returns-then-number-eq0 : goal.returns-then-number-eq0
 returns-then-number-eq0 c =
     let n = c.count_lines-lines.ensures in
-    met _ _ _ _ 0 (Err NotDrawn) refl (omega arith, λ f m d. let p = d.refuses in omega arith) (omega arith)
+    met _ _ _ _ 0 (Err NotDrawn) refl (omega arith, λ f m d. let p = d.refuses in omega arith, refl) (omega arith)
 
 pub found-requires : goal.found-requires
 found-requires c =
