@@ -1,6 +1,7 @@
 // A line's call on the peripheral.
 ghost use Rattle.std.specs.Prelude.{◌≡◌, Option};
 ghost use Rattle.answers.specs.Calls.{trace_clocks};
+ghost use Rattle.answers.specs.Told.{Tells, told_by};
 ghost use Rattle.answers.specs.Calls.{told, valued, moment_in, outcome_of, refused_by, taken_at, called_of, answer_of};
 ghost use Rattle.answers.specs.declared.Value.{Value};
 ghost use Rattle.iic.specs.Calls.{advance_of, deadline_of, input_pins_of, read_of, write_of};
@@ -46,6 +47,7 @@ fn given(scl: bool, sda: bool, time: Time, state: Iic) -> Answered<bool>
 }
 
 // A visit, over the system clock alone where that is all that the state waits for.
+#[inline(never)]
 fn visited(time: Time, state: Iic) -> Stepped
     ensures { result ≡ advance_of state time trace_clocks }
 {
@@ -58,6 +60,7 @@ fn visited(time: Time, state: Iic) -> Stepped
 }
 
 // A deadline, in the same way.
+#[inline(never)]
 fn deadline_of(state: Iic) -> Result<Option<Time>, Refusal>
     ensures { result ≡ deadline_of state trace_clocks }
 {
@@ -79,7 +82,9 @@ fn of_deadline(deadline: Result<Option<Time>, Refusal>, state: Iic) -> Outcome
     }
 }
 
-// The call on a state, over a trace's clocks.
+// The call on a state, over a trace's clocks. Never inlined, nor is what its arms call: a function pays at its entry for all its locals, and so a line pays
+// for its own call alone.
+#[inline(never)]
 #[tactic(auto, unfolding(crate::specs::Calls::outcome_of))]
 fn outcome(verb: Verb, time: Time, state: Iic) -> Outcome
     ensures { result ≡ outcome_of trace_clocks time state verb }
@@ -95,9 +100,10 @@ fn outcome(verb: Verb, time: Time, state: Iic) -> Outcome
 }
 
 // The same over any clocks. Not one function with `outcome`: a trace's calls hand no clock set on, so that a line takes less time.
-#[tactic(auto, unfolding(crate::specs::Calls::outcome_of))]
+#[tactic(auto, unfolding(crate::specs::Calls::outcome_of), using(crate::proofs::Tells::tells_as))]
 pub fn outcome_in(clocks: Clocks, verb: Verb, time: Time, state: Iic) -> Outcome
-    ensures { result ≡ outcome_of clocks time state verb }
+    ensures outcome { result ≡ outcome_of clocks time state verb }
+    ensures told { Tells (told_by clocks time state verb) result.answer }
 {
     match verb {
         Verb::Read(a) => told(state.read(a, time, clocks), |b| Some(Value::Byte(b))),

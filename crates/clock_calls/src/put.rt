@@ -45,7 +45,7 @@ pub fn put<T: Words>(answer: Result<T, Refusal>, out: &mut [u64; 82]) -> u64
 
 // A wait behind what ended the call, which is written where that is refused, too.
 pub(crate) fn put_waited(w: Waited, out: &mut [u64; 82]) -> u64
-    ensures { Written 10 result out.old out.new }
+    ensures { (result ≡ number_ended w.ended) × Written 10 result out.old out.new }
 {
     write(number_ended(w.ended) as u64, w.wait, out)
 }

@@ -1,7 +1,8 @@
 // The eleven calls of the peripheral's host, each with its answer and, where it may change the state, the next one. Time and clocks are operands of
 // their own in document 01, so they go as such through calls and steps.
 ghost use Rattle.std.specs.Prelude.{◌≡◌};
-ghost use Rattle.iic.specs.Answers.{Stepped, guarded};
+ghost use Rattle.iic.specs.Answers.{Stepped, and_then, guarded};
+ghost use Rattle.iic.specs.Waiting.{turn_filter_of, turn_monitor_of, turn_setup_of};
 ghost use Rattle.iic.specs.declared.Iic.{Iic};
 ghost use Rattle.iic.specs.Calls.{advance_of, deadline_of, ends_of, guard_by, input_pins_of, interrupt_with_enable_of, keep_stretched_of, peek_of, pins_of, read_of, set_gate_of, turn_gate_of, turn_waits_of, validate_of, waits_refusal, write_of};
 
@@ -96,10 +97,10 @@ impl Iic {
         ensures { result ≡ turn_waits_of gate now clocks self }
     {
         self.turn_clock(gate, now, clocks.system)
-            .and_then(|s| s.turn_monitor(gate, now, clocks.system))
-            .and_then(|s| s.keep_stretched(gate, now, clocks.system))
-            .and_then(|s| s.turn_filter(gate, now, clocks))
-            .and_then(|s| s.turn_setup(gate, now, clocks))
+            .turn_monitor(gate, now, clocks.system)
+            .keep_stretched(gate, now, clocks.system)
+            .turn_filter(gate, now, clocks)
+            .turn_setup(gate, now, clocks)
     }
 
     #[tactic(auto, unfolding(crate::specs::Calls::turn_gate_of))]
@@ -119,7 +120,8 @@ impl Iic {
         next
     }
 
-    // Whether the peripheral's clock runs.
+    // Whether the peripheral's clock runs; never inlined, so that other lines don't pay for its locals.
+    #[inline(never)]
     #[tactic(auto, unfolding(crate::specs::Calls::set_gate_of))]
     pub fn set_gate(mut self, gate: bool, now: Time, clocks: Clocks) -> Stepped
         ensures { result ≡ set_gate_of self gate now clocks }
@@ -196,5 +198,48 @@ impl Iic {
         tap_refusal(self.filter_wait)?;
         tap_refusal(self.setup_wait)?;
         self.halves_refusal()
+    }
+}
+
+// The same after a step. Where a wait isn't there nothing is moved for it: as closures of `and_then` alone a change of the gate takes half as long again.
+impl Answered<()> {
+    #[tactic(auto, unfolding(crate::specs::Waiting::turn_monitor_of))]
+    fn turn_monitor(mut self, gate: bool, now: Time, system: Domain) -> Stepped
+        ensures { result ≡ and_then self (turn_monitor_of gate now system) }
+    {
+        if self.state.monitor_wait.is_some() {
+            self = self.and_then(|s| s.turn_monitor(gate, now, system));
+        }
+        self
+    }
+
+    #[tactic(auto, unfolding(crate::specs::Calls::keep_stretched_of))]
+    fn keep_stretched(mut self, gate: bool, now: Time, system: Domain) -> Stepped
+        ensures { result ≡ and_then self (keep_stretched_of gate now system) }
+    {
+        if gate & self.state.flags.synchronized_hold {
+            self = self.and_then(|s| s.keep_stretched(gate, now, system));
+        }
+        self
+    }
+
+    #[tactic(auto, unfolding(crate::specs::Waiting::turn_filter_of))]
+    fn turn_filter(mut self, gate: bool, now: Time, clocks: Clocks) -> Stepped
+        ensures { result ≡ and_then self (turn_filter_of gate now clocks) }
+    {
+        if self.state.filter_wait.is_some() {
+            self = self.and_then(|s| s.turn_filter(gate, now, clocks));
+        }
+        self
+    }
+
+    #[tactic(auto, unfolding(crate::specs::Waiting::turn_setup_of))]
+    fn turn_setup(mut self, gate: bool, now: Time, clocks: Clocks) -> Stepped
+        ensures { result ≡ and_then self (turn_setup_of gate now clocks) }
+    {
+        if self.state.setup_wait.is_some() {
+            self = self.and_then(|s| s.turn_setup(gate, now, clocks));
+        }
+        self
     }
 }

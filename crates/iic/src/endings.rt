@@ -36,14 +36,14 @@ impl Answered<()> {
     }
 
     // The next step, where this one went through: the Rust's `?`.
-    pub(crate) fn and_then<F: FnOnce(Iic) -> Stepped>(self, step: F) -> Stepped
+    pub(crate) fn and_then<F: FnOnce(Iic) -> Stepped>(mut self, step: F) -> Stepped
         requires { F.IsAlwaysCallable step }
         ensures { (f : Iic → Stepped) → ((s : Iic) (r : Stepped) → F.post step s r → r ≡ f s) → result ≡ and_then self f }
     {
-        match self.answer {
-            Ok(()) => step(self.state),
-            Err(_) => self,
+        if self.answer.is_ok() {
+            self = step(self.state);
         }
+        self
     }
 
     // A call's answer where its step went through.

@@ -12,15 +12,25 @@ use registers::Register;
 use time::Time;
 use waits::ends::{half_end, is_on_system, sooner, system_end};
 
+// The guard is tested in place: as closures of `guarded` the calls copy the state more often, and a trace of writes takes a quarter longer. Never
+// inlined: a function pays at its entry for all its locals, and a caller of all these calls would pay for each of them.
 impl Iic {
+    #[inline(never)]
     pub(crate) fn read_by(self, zero: bool, address: u16, now: Time, system: Domain) -> Answered<u8>
         ensures { result ≡ read_by zero self address now system }
     {
         let value = self.peek(address);
-        self.guarded(zero, |s| s.read_at(Register::at(address), now, system))
+        if let Err(refusal) = self.guard(zero) {
+            return Answered {
+                answer: Err(refusal),
+                state: self,
+            };
+        }
+        self.read_at(Register::at(address), now, system)
             .answering(value)
     }
 
+    #[inline(never)]
     pub(crate) fn write_by(
         self,
         zero: bool,
@@ -31,10 +41,10 @@ impl Iic {
     ) -> Stepped
         ensures { result ≡ write_by zero self address value now system }
     {
-        self.guarded(
-            zero,
-            |s| s.write_at(Register::at(address), value, now, system),
-        )
+        if let Err(refusal) = self.guard(zero) {
+            return self.refused(refusal);
+        }
+        self.write_at(Register::at(address), value, now, system)
     }
 
     #[tactic(auto, unfolding(crate::specs::Calls::take_pins_of))]
@@ -48,6 +58,7 @@ impl Iic {
         self.schedule_filter(now, system)
     }
 
+    #[inline(never)]
     pub(crate) fn input_pins_by(
         self,
         zero: bool,
@@ -60,8 +71,13 @@ impl Iic {
     {
         let given = Levels { scl, sda };
         let value = self.observes(given);
-        self.guarded(zero, |s| s.take_pins(given, now, system))
-            .answering(value)
+        if let Err(refusal) = self.guard(zero) {
+            return Answered {
+                answer: Err(refusal),
+                state: self,
+            };
+        }
+        self.take_pins(given, now, system).answering(value)
     }
 
     #[tactic(auto, unfolding(crate::specs::Calls::earliest_of))]
@@ -79,7 +95,6 @@ impl Iic {
         sooner(ends.filter, clock)
     }
 
-    // The guard is tested in place: as a closure of `guarded`, the test and the visit after it would be no shorter.
     pub(crate) fn advance_by(self, zero: bool, ends: Ends, now: Time, system: Domain) -> Stepped
         ensures { result ≡ advance_by zero ends self now system }
     {

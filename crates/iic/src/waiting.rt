@@ -151,6 +151,8 @@ impl Iic {
         )
     }
 
+    // This one and the two below are never inlined: each is for a wait that is there, and a gate without one doesn't pay for its locals.
+    #[inline(never)]
     #[tactic(auto, unfolding(crate::specs::Waiting::turn_monitor_of))]
     pub(crate) fn turn_monitor(self, gate: bool, now: Time, system: Domain) -> Stepped
         ensures { result ≡ turn_monitor_of gate now system self }
@@ -161,6 +163,7 @@ impl Iic {
         )
     }
 
+    #[inline(never)]
     #[tactic(auto, unfolding(crate::specs::Waiting::turn_filter_of))]
     pub(crate) fn turn_filter(self, gate: bool, now: Time, clocks: Clocks) -> Stepped
         ensures { result ≡ turn_filter_of gate now clocks self }
@@ -171,6 +174,7 @@ impl Iic {
         )
     }
 
+    #[inline(never)]
     #[tactic(auto, unfolding(crate::specs::Waiting::turn_setup_of))]
     pub(crate) fn turn_setup(self, gate: bool, now: Time, clocks: Clocks) -> Stepped
         ensures { result ≡ turn_setup_of gate now clocks self }
