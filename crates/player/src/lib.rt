@@ -65,10 +65,9 @@ impl Player {
         let mut lines = self.lines;
         let mut used = 0usize;
         let mut written = 0usize;
-        for line in (Lines { rest: part, ended }) {
-            if 1000000 <= lines {
-                break;
-            }
+        // After 1,000,000 lines no byte more is looked at.
+        let most = 1000000u64.saturating_sub(lines) as usize;
+        for line in (Lines { rest: part, ended }).take(most) {
             if out.len() - written < 80 {
                 return Progress {
                     used,
