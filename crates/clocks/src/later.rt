@@ -1,6 +1,6 @@
 // The edges after the one that a wait is for: a later one, and how many come before an end.
 ghost use Rattle.std.specs.Prelude.{◌≡◌};
-ghost use Rattle.clocks.specs.Wait.{later_running, wait_later_edge, edges_running, wait_edges_before};
+ghost use Rattle.clocks.specs.Wait.{made_deadline, later_running, wait_later_edge, edges_running, wait_edges_before};
 
 use super::Clocks;
 use super::tap::Tap;
@@ -9,8 +9,9 @@ use counts::checked_add;
 use refusals::Refusal;
 use time::Time;
 
-// The time of the edge so many after the one that a running wait is for.
+// The time of the edge so many after the one that a running wait is for; never inlined, since its room would be cleared for every wait.
 #[tactic(auto, unfolding(crate::specs::Wait::later_running, crate::specs::Wait::later_target, crate::specs::Wait::dated))]
+#[inline(never)]
 fn later_running(tap: Tap, clocks: Clocks, count: u64, target: u64) -> Result<Option<Time>, Refusal>
     ensures { result ≡ later_running tap clocks count target }
 {
@@ -21,8 +22,17 @@ fn later_running(tap: Tap, clocks: Clocks, count: u64, target: u64) -> Result<Op
     Ok(Some(clocks.edge(tick, tap)?))
 }
 
+// The deadline of a wait that was started; never inlined, as above.
+#[tactic(auto, unfolding(crate::specs::Wait::made_deadline))]
+#[inline(never)]
+fn made_deadline(clocks: Clocks, made: Result<ClockWait, Refusal>) -> Result<Option<Time>, Refusal>
+    ensures { result ≡ made_deadline clocks made }
+{
+    made?.deadline(clocks)
+}
+
 impl ClockWait {
-    #[tactic(auto, unfolding(crate::specs::Wait::wait_later_edge, crate::specs::Wait::made_deadline))]
+    #[tactic(auto, unfolding(crate::specs::Wait::wait_later_edge))]
     pub fn later_edge(self, count: u64, clocks: Clocks) -> Result<Option<Time>, Refusal>
         ensures { result ≡ wait_later_edge self count clocks }
     {
@@ -35,7 +45,10 @@ impl ClockWait {
         match self.state {
             WaitState::Running(target) => later_running(self.tap, clocks, count, target),
             WaitState::Paused(_) => Ok(None),
-            WaitState::Ready(at) => ClockWait::after(at, count, self.tap, clocks)?.deadline(clocks),
+            WaitState::Ready(at) => made_deadline(
+                clocks,
+                ClockWait::after(at, count, self.tap, clocks),
+            ),
         }
     }
 

@@ -1,7 +1,10 @@
 // A wait for a number of edges of a tap, counted in edges and not in seconds.
-ghost use Rattle.std.specs.Prelude.{◌≡◌};
-ghost use Rattle.clocks.specs.Wait.{kept, dated, wait_after, wait_deadline, wait_pause, paused_by, resumed_as, wait_resume, wait_validate, wait_select};
+ghost use Rattle.std.specs.Prelude.{◌≡◌, ◌+◌, false};
+ghost use Rattle.clocks.specs.Clocks.{has_zero};
+ghost use Rattle.clocks.specs.Wait.{started_at, kept, dated, wait_after, wait_deadline, wait_pause, paused_by, resumed_as, wait_resume, wait_validate, wait_select};
 ghost use Rattle.clocks.specs.Tap.{same_tap};
+ghost use Rattle.counts.specs.Counts.{fits};
+ghost use Rattle.refusals.specs.Refusals.{and_then};
 
 use super::Clocks;
 use super::tap::Tap;
@@ -55,7 +58,21 @@ impl ClockWait {
                 state: WaitState::Ready(now),
             });
         }
-        let target = checked_add(clocks.counted(now, tap)?, edges)?;
+        ClockWait::started(clocks.counted(now, tap), edges, tap, clocks)
+    }
+
+    // The wait for so many edges after those counted; apart from `after`, which would clear room for one more copy of the clock set.
+    #[tactic(auto, unfolding(crate::specs::Wait::started_at, crate::specs::Wait::started_by, crate::specs::Wait::wait_deadline))]
+    fn started(
+        count: Result<u64, Refusal>,
+        edges: u64,
+        tap: Tap,
+        clocks: Clocks,
+    ) -> Result<ClockWait, Refusal>
+        requires { has_zero clocks ≡ false }
+        ensures { result ≡ and_then count (λ m. and_then (fits (m + edges)) (started_at tap clocks)) }
+    {
+        let target = checked_add(count?, edges)?;
         let wait = ClockWait {
             tap,
             state: WaitState::Running(target),
@@ -76,7 +93,8 @@ impl ClockWait {
                 let tap = self.tap;
                 let domain = clocks.source(tap.source);
                 if domain.running & clocks.is_fed(tap.source, tap.divide) {
-                    Ok(Some(clocks.edge_by(domain.clock, target, tap)?))
+                    // A `?` here would copy the clock set once more, for every wait.
+                    dated(clocks.edge_by(domain.clock, target, tap))
                 } else {
                     Ok(None)
                 }

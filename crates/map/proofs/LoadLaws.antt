@@ -1,7 +1,9 @@
--- Laws: a text is accepted exactly if its lines spell at most 64 ranges in which each address lies once (`accepted_text`, `text_accepted`).
+-- Laws: a text is accepted exactly if its lines spell at most 64 ranges in which each address lies once (`accepted_text`, `text_accepted`); its map has
+-- at most 64 lines, refused or not (`loaded_few`, `refused_few`).
 -- Assumes nothing.
-use Rattle.std.specs.Prelude.{true, List, [], ◌∷◌, ◌≡◌, refl, ℕ, suc, ◌≤◌, min, length, ⊤, None, Result, Ok, Err}
+use Rattle.std.specs.Prelude.{Bool, true, false, cond, List, [], ◌∷◌, ◌≡◌, refl, ℕ, suc, ◌≤◌, min, leb, length, ⊤, Option, None, Some, Result, Ok, Err}
 use Rattle.std.proofs.Common.{sym, ap, ◌∙◌, subst, arith, length-take}
+use borrow.Author.Tests.{leb-false}
 use Rattle.lines.specs.Lines.{lines_in}
 use Rattle.map.specs.declared.Range.{Range}
 use Rattle.map.specs.declared.Map.{Map}
@@ -12,7 +14,7 @@ use Rattle.map.specs.Format.{spell_ranges}
 use Rattle.map.specs.Meaning.{InOne, AllIn, none, and, Fits}
 use Rattle.map.proofs.MapLaws.{wrong_clear}
 use Rattle.map.proofs.AcceptLaws.{accepted_each, each_accepted}
-use Rattle.map.specs.Reading.{empty_map, with_line, read_on, read_from, read_of, if_fine, load_of}
+use Rattle.map.specs.Reading.{empty_map, wrong_next, with_range, with_line, range_of, read_on, read_from, read_of, if_fine, load_of}
 use Rattle.map.specs.TextLaws.{Sized, added_sized, empty_sized, line_taken, err_is_not_ok, same_map, text_is_spelled, spelled_is_text}
 
 -- ## Maps that are read
@@ -29,6 +31,49 @@ read_sized m (l ∷ ls) r s e = by (with_line m l) refl e (λ n. read_sized n ls
 text_few : (s : List ℕ) (r : Map) → read_of s ≡ Ok r → r.count ≤ 64
 unfolding read_of
 text_few s r e = (read_sized empty_map (lines_in true s) r empty_sized e).few
+
+-- the map of what is answered, of a text that is refused too: `Refused` has it
+abbrev map_in : Result Map Refused → Map
+map_in (Ok m) = m
+map_in (Err r) = r.map
+
+line_sized : (m : Map) (l : List ℕ) → Sized m → Sized (map_in (with_line m l))
+unfolding with_line
+line_sized m l s = by (leb 64 m.count) refl (range_of l)
+  where
+    by : (t : Bool) → leb 64 m.count ≡ t → (q : Option Range) → Sized (map_in (cond t (Err (wrong_next m)) (with_range m q)))
+    by true e q = s
+    by false e None = s
+    by false e (Some r) = added_sized m r s (leb-false 64 m.count e)
+
+any_sized : (m : Map) (ls : List (List ℕ)) → Sized m → Sized (map_in (read_from m ls))
+unfolding read_from
+any_sized m [] s = s
+any_sized m (l ∷ ls) s = by (with_line m l) (line_sized m l s) (λ n. any_sized n ls)
+  where
+    by : (q : Result Map Refused) → Sized (map_in q) → ((n : Map) → Sized n → Sized (map_in (read_from n ls))) → Sized (map_in (read_on q (λ n. read_from n ls)))
+    by (Err r) x rest = x
+    by (Ok n) x rest = rest n x
+
+any_few : (s : List ℕ) → (map_in (read_of s)).count ≤ 64
+unfolding read_of
+any_few s = (any_sized empty_map (lines_in true s) empty_sized).few
+
+-- a map has at most 64 lines beside a refusal, too
+pub loaded_few : (s : List ℕ) → (map_in (load_of s)).count ≤ 64
+unfolding load_of
+loaded_few s = by (read_of s) (any_few s)
+  where
+    fine : (m : Map) (c : Result ⊤ Fault) → m.count ≤ 64 → (map_in (if_fine m c)).count ≤ 64
+    fine m (Ok _) h = h
+    fine m (Err f) h = h
+
+    by : (q : Result Map Refused) → (map_in q).count ≤ 64 → (map_in (read_on q (λ m. if_fine m (check_of m)))).count ≤ 64
+    by (Err r) h = h
+    by (Ok m) h = fine m (check_of m) h
+
+pub refused_few : (s : List ℕ) (r : Refused) → load_of s ≡ Err r → r.map.count ≤ 64
+refused_few s r e = subst (λ (q : Result Map Refused). (map_in q).count ≤ 64) e (loaded_few s)
 
 all_sound : (n : ℕ) (rs : List Range) → AllIn rs → wrong_from n rs ≡ None
 unfolding wrong_from

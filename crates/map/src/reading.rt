@@ -1,6 +1,6 @@
 // A text as the map that it means.
 ghost use Rattle.std.specs.Prelude.{◌≡◌, ◌≤◌};
-ghost use Rattle.map.specs.Reading.{address_of, empty_map, load_of, range_of, read_of, unit_of, with_line, wrong_next};
+ghost use Rattle.map.specs.Reading.{address_of, empty_map, if_fine, load_of, range_of, read_of, unit_of, with_line};
 
 use super::{Fault, Map, Range};
 use lines::ends::{line_end, past};
@@ -68,33 +68,23 @@ impl Map {
         }
     }
 
-    // The next line is none.
-    fn wrong_next(self) -> Refused
-        requires { self.count ≤ 64 }
-        ensures { result ≡ wrong_next self }
-    {
-        Refused {
-            fault: Fault::Line(self.count as u16 + 1),
-            map: self,
-        }
-    }
-
-    // With a further line.
+    // Takes a further line; one that is none leaves the map as it was.
     #[tactic(auto, unfolding(crate::specs::Reading::with_line))]
-    fn with_line(mut self, line: &[u8]) -> Result<Map, Refused>
-        requires { self.count ≤ 64 }
-        ensures { result ≡ with_line self line.now }
+    fn with_line(&mut self, line: &[u8]) -> Result<(), Fault>
+        requires { self.old.count ≤ 64 }
+        ensures { if_fine self.new result ≡ with_line self.old line.now }
     {
         let at = self.count;
+        let wrong = Fault::Line(at as u16 + 1);
         if 64 <= at {
-            return Err(self.wrong_next());
+            return Err(wrong);
         }
         let Some(range) = parse(line) else {
-            return Err(self.wrong_next());
+            return Err(wrong);
         };
         self.ranges[at] = range;
         self.count = at + 1;
-        Ok(self)
+        Ok(())
     }
 }
 
@@ -107,7 +97,9 @@ fn read_lines(text: &[u8]) -> Result<Map, Refused>
     // no `for`: a line's length says where the next begins
     while at < text.len() {
         let end = line_end(text, at);
-        map = map.with_line(&text[at..end])?;
+        if let Err(fault) = map.with_line(&text[at..end]) {
+            return Err(Refused { fault, map });
+        }
         at = past(end, text.len());
     }
     Ok(map)
