@@ -2,13 +2,13 @@
 ghost use Rattle.std.specs.Prelude.{◌≡◌, Option};
 ghost use Rattle.answers.specs.Calls.{trace_clocks};
 ghost use Rattle.answers.specs.Told.{Tells, told_by};
-ghost use Rattle.answers.specs.Calls.{told, valued, moment_in, outcome_of, refused_by, taken_at, called_of, answer_of};
+ghost use Rattle.answers.specs.Calls.{told, valued, moment_in, outcome_of, refused_by, called_of, answer_of};
 ghost use Rattle.answers.specs.declared.Value.{Value};
-ghost use Rattle.iic.specs.Calls.{advance_of, deadline_of, input_pins_of, read_of, write_of};
+ghost use Rattle.iic.specs.Calls.{advance_of, deadline_of, input_pins_of, read_of, set_gate_of, write_of};
 
 use super::{Answer, Host, Outcome, Value, trace_clocks, trace_system};
 use clocks::Clocks;
-use iic::{Answered, Iic, Stepped};
+use iic::{Answered, Iic};
 use lines::reading::parse;
 use lines::{Call, Verb, may_follow};
 use refusals::Refusal;
@@ -25,38 +25,64 @@ fn told<A, F: FnOnce(A) -> Option<Value>>(done: Answered<A>, value: F) -> Outcom
     }
 }
 
-// A read, over the system clock alone, which is all that it looks at.
-fn read(address: u16, time: Time, state: Iic) -> Answered<u8>
-    ensures { result ≡ read_of state address time trace_clocks }
+// What a call answered; the state becomes the one that it left.
+fn left<A: Copy>(done: Answered<A>, state: &mut Iic) -> Result<A, Refusal>
+    ensures { record { answer = result; state = state.new } ≡ done }
 {
-    state.read_over(address, time, trace_system())
+    *state = done.state;
+    done.answer
+}
+
+// The calls of a trace change the state in place: an answer with the state in it is of 264 bytes, and to clear more than 256 takes a call of `memset`. They
+// are never inlined, since a function pays at its entry for all its locals, and so a line pays for its own call alone.
+
+// A read, over the system clock alone, which is all that it looks at.
+#[inline(never)]
+fn read(address: u16, time: Time, state: &mut Iic) -> Result<u8, Refusal>
+    ensures { record { answer = result; state = state.new } ≡ read_of state.old address time trace_clocks }
+{
+    left(state.read_over(address, time, trace_system()), state)
 }
 
 // A write, in the same way.
-fn written(address: u16, value: u8, time: Time, state: Iic) -> Stepped
-    ensures { result ≡ write_of state address value time trace_clocks }
+#[inline(never)]
+fn written(address: u16, value: u8, time: Time, state: &mut Iic) -> Result<(), Refusal>
+    ensures { record { answer = result; state = state.new } ≡ write_of state.old address value time trace_clocks }
 {
-    state.write_over(address, value, time, trace_system())
+    left(
+        state.write_over(address, value, time, trace_system()),
+        state,
+    )
 }
 
 // The levels as given, in the same way.
-fn given(scl: bool, sda: bool, time: Time, state: Iic) -> Answered<bool>
-    ensures { result ≡ input_pins_of state scl sda time trace_clocks }
+#[inline(never)]
+fn given(scl: bool, sda: bool, time: Time, state: &mut Iic) -> Result<bool, Refusal>
+    ensures { record { answer = result; state = state.new } ≡ input_pins_of state.old scl sda time trace_clocks }
 {
-    state.input_pins_over(scl, sda, time, trace_system())
+    left(state.input_pins_over(scl, sda, time, trace_system()), state)
+}
+
+// A change of the gate, over the whole set.
+#[inline(never)]
+fn gated(gate: bool, time: Time, state: &mut Iic) -> Result<(), Refusal>
+    ensures { record { answer = result; state = state.new } ≡ set_gate_of state.old gate time trace_clocks }
+{
+    left(state.set_gate(gate, time, trace_clocks()), state)
 }
 
 // A visit, over the system clock alone where that is all that the state waits for.
 #[inline(never)]
-fn visited(time: Time, state: Iic) -> Stepped
-    ensures { result ≡ advance_of state time trace_clocks }
+fn visited(time: Time, state: &mut Iic) -> Result<(), Refusal>
+    ensures { record { answer = result; state = state.new } ≡ advance_of state.old time trace_clocks }
 {
     let alone = state.waits_on_system();
-    if alone {
+    let done = if alone {
         state.advance_over(time, trace_system())
     } else {
         state.advance(time, trace_clocks())
-    }
+    };
+    left(done, state)
 }
 
 // A deadline, in the same way.
@@ -72,30 +98,26 @@ fn deadline_of(state: Iic) -> Result<Option<Time>, Refusal>
     }
 }
 
-// The deadline as the value of an answer line; the state stays.
-fn of_deadline(deadline: Result<Option<Time>, Refusal>, state: Iic) -> Outcome
-    ensures { result ≡ record { answer = valued moment_in deadline; state = state } }
+// The deadline as the value of an answer line.
+fn of_deadline(deadline: Result<Option<Time>, Refusal>) -> Result<Option<Value>, Refusal>
+    ensures { result ≡ valued moment_in deadline }
 {
-    Outcome {
-        answer: deadline.map(|d| d.map(Value::Moment)),
-        state,
-    }
+    deadline.map(|d| d.map(Value::Moment))
 }
 
-// The call on a state, over a trace's clocks. Never inlined, nor is what its arms call: a function pays at its entry for all its locals, and so a line pays
-// for its own call alone.
+// The call on a state, over a trace's clocks.
 #[inline(never)]
 #[tactic(auto, unfolding(crate::specs::Calls::outcome_of))]
-fn outcome(verb: Verb, time: Time, state: Iic) -> Outcome
-    ensures { result ≡ outcome_of trace_clocks time state verb }
+fn outcome(verb: Verb, time: Time, state: &mut Iic) -> Result<Option<Value>, Refusal>
+    ensures { record { answer = result; state = state.new } ≡ outcome_of trace_clocks time state.old verb }
 {
     match verb {
-        Verb::Read(a) => told(read(a, time, state), |b| Some(Value::Byte(b))),
-        Verb::Write(a, b) => told(written(a, b, time, state), |_| None),
-        Verb::Pins(scl, sda) => told(given(scl, sda, time, state), |b| Some(Value::Bit(b))),
-        Verb::Gate(gate) => told(state.set_gate(gate, time, trace_clocks()), |_| None),
-        Verb::Visit => told(visited(time, state), |_| None),
-        Verb::Deadline => of_deadline(deadline_of(state), state),
+        Verb::Read(a) => read(a, time, state).map(|b| Some(Value::Byte(b))),
+        Verb::Write(a, b) => written(a, b, time, state).map(|_| None),
+        Verb::Pins(scl, sda) => given(scl, sda, time, state).map(|b| Some(Value::Bit(b))),
+        Verb::Gate(gate) => gated(gate, time, state).map(|_| None),
+        Verb::Visit => visited(time, state).map(|_| None),
+        Verb::Deadline => of_deadline(deadline_of(*state)),
     }
 }
 
@@ -114,19 +136,9 @@ pub fn outcome_in(clocks: Clocks, verb: Verb, time: Time, state: Iic) -> Outcome
         ),
         Verb::Gate(gate) => told(state.set_gate(gate, time, clocks), |_| None),
         Verb::Visit => told(state.advance(time, clocks), |_| None),
-        Verb::Deadline => of_deadline(state.deadline(clocks), state),
-    }
-}
-
-// What a call makes of the host.
-fn taken_at(time: Time, done: Outcome) -> Answer
-    ensures { result ≡ taken_at time done }
-{
-    Answer {
-        answer: done.answer,
-        host: Host {
-            last: Some(time),
-            state: done.state,
+        Verb::Deadline => Outcome {
+            answer: of_deadline(state.deadline(clocks)),
+            state,
         },
     }
 }
@@ -142,13 +154,15 @@ impl Host {
     }
 
     #[tactic(auto, unfolding(crate::specs::Calls::called_of))]
-    fn called(self, call: Call) -> Answer
+    fn called(mut self, call: Call) -> Answer
         ensures { result ≡ called_of trace_clocks self call }
     {
         let verb = call.verb;
         let time = call.time;
         if may_follow(self.last, time) {
-            taken_at(time, outcome(verb, time, self.state))
+            self.last = Some(time);
+            let answer = outcome(verb, time, &mut self.state);
+            Answer { answer, host: self }
         } else {
             self.refused(Refusal::NotLater)
         }

@@ -1,8 +1,7 @@
 // The eleven calls of the peripheral's host, each with its answer and, where it may change the state, the next one. Time and clocks are operands of
 // their own in document 01, so they go as such through calls and steps.
 ghost use Rattle.std.specs.Prelude.{◌≡◌};
-ghost use Rattle.iic.specs.Answers.{Stepped, and_then, guarded};
-ghost use Rattle.iic.specs.Waiting.{turn_filter_of, turn_monitor_of, turn_setup_of};
+ghost use Rattle.iic.specs.Answers.{and_then};
 ghost use Rattle.iic.specs.declared.Iic.{Iic};
 ghost use Rattle.iic.specs.Calls.{advance_of, deadline_of, ends_of, guard_by, input_pins_of, interrupt_with_enable_of, keep_stretched_of, peek_of, pins_of, read_of, set_gate_of, turn_gate_of, turn_waits_of, validate_of, waits_refusal, write_of};
 
@@ -29,17 +28,6 @@ impl Iic {
         )
     }
 
-    // A call, unless something stands before it.
-    pub(crate) fn guarded<F: FnOnce(Iic) -> Stepped>(self, zero: bool, call: F) -> Stepped
-        requires { F.IsAlwaysCallable call }
-        ensures { (f : Iic → Stepped) → ((s : Iic) (r : Stepped) → F.post call s r → r ≡ f s) → result ≡ guarded (guard_by zero self) self (f self) }
-    {
-        match self.guard(zero) {
-            Ok(()) => call(self),
-            Err(refusal) => self.refused(refusal),
-        }
-    }
-
     // What a register shows.
     #[tactic(auto, unfolding(crate::specs::Calls::peek_of))]
     pub fn peek(self, address: u16) -> u8
@@ -48,6 +36,9 @@ impl Iic {
         self.peek_at(Register::at(address))
     }
 
+    // `read`, `write`, `input_pins` and `set_gate` are never inlined: a function pays at its entry for all its locals, and a caller of them all would pay
+    // for each.
+    #[inline(never)]
     #[tactic(auto, unfolding(crate::specs::Calls::read_of))]
     pub fn read(mut self, address: u16, now: Time, clocks: Clocks) -> Answered<u8>
         ensures { result ≡ read_of self address now clocks }
@@ -55,6 +46,7 @@ impl Iic {
         self.read_by(clocks.has_zero(), address, now, clocks.system)
     }
 
+    #[inline(never)]
     #[tactic(auto, unfolding(crate::specs::Calls::write_of))]
     pub fn write(mut self, address: u16, value: u8, now: Time, clocks: Clocks) -> Stepped
         ensures { result ≡ write_of self address value now clocks }
@@ -63,6 +55,7 @@ impl Iic {
     }
 
     // The levels of the lines, as given.
+    #[inline(never)]
     #[tactic(auto, unfolding(crate::specs::Calls::input_pins_of))]
     pub fn input_pins(mut self, scl: bool, sda: bool, now: Time, clocks: Clocks) -> Answered<bool>
         ensures { result ≡ input_pins_of self scl sda now clocks }
@@ -80,23 +73,13 @@ impl Iic {
         None
     }
 
-    // A wait that a stretched clock paused stays paused.
-    #[tactic(auto, unfolding(crate::specs::Calls::keep_stretched_of))]
-    fn keep_stretched(self, gate: bool, now: Time, system: Domain) -> Stepped
-        ensures { result ≡ keep_stretched_of gate now system self }
-    {
-        if gate & self.flags.synchronized_hold {
-            return self.turn_clock(false, now, system);
-        }
-        self.fine()
-    }
-
     // Clock, monitor, filter and setup resume or pause.
     #[tactic(auto, unfolding(crate::specs::Calls::turn_waits_of))]
     fn turn_waits(self, gate: bool, now: Time, clocks: Clocks) -> Stepped
         ensures { result ≡ turn_waits_of gate now clocks self }
     {
-        self.turn_clock(gate, now, clocks.system)
+        self.fine()
+            .turn_clock(gate, now, clocks.system)
             .turn_monitor(gate, now, clocks.system)
             .keep_stretched(gate, now, clocks.system)
             .turn_filter(gate, now, clocks)
@@ -114,19 +97,22 @@ impl Iic {
         let next = self.turn_waits(gate, now, clocks);
         if gate {
             return next
-                .and_then(|s| s.schedule_filter(now, clocks.system))
-                .and_then(|s| s.kick(now, clocks.system));
+                .schedule_filter(now, clocks.system)
+                .kick(now, clocks.system);
         }
         next
     }
 
-    // Whether the peripheral's clock runs; never inlined, so that other lines don't pay for its locals.
+    // Whether the peripheral's clock runs.
     #[inline(never)]
     #[tactic(auto, unfolding(crate::specs::Calls::set_gate_of))]
     pub fn set_gate(mut self, gate: bool, now: Time, clocks: Clocks) -> Stepped
         ensures { result ≡ set_gate_of self gate now clocks }
     {
-        self.guarded(clocks.has_zero(), |s| s.turn_gate(gate, now, clocks))
+        if let Err(refusal) = self.guard(clocks.has_zero()) {
+            return self.refused(refusal);
+        }
+        self.turn_gate(gate, now, clocks)
     }
 
     // When the waits end that may be on any tap; never inlined, since most visits go over the system clock alone.
@@ -201,44 +187,14 @@ impl Iic {
     }
 }
 
-// The same after a step. Where a wait isn't there nothing is moved for it: as closures of `and_then` alone a change of the gate takes half as long again.
 impl Answered<()> {
-    #[tactic(auto, unfolding(crate::specs::Waiting::turn_monitor_of))]
-    fn turn_monitor(mut self, gate: bool, now: Time, system: Domain) -> Stepped
-        ensures { result ≡ and_then self (turn_monitor_of gate now system) }
-    {
-        if self.state.monitor_wait.is_some() {
-            self = self.and_then(|s| s.turn_monitor(gate, now, system));
-        }
-        self
-    }
-
+    // A wait that a stretched clock paused stays paused.
     #[tactic(auto, unfolding(crate::specs::Calls::keep_stretched_of))]
     fn keep_stretched(mut self, gate: bool, now: Time, system: Domain) -> Stepped
         ensures { result ≡ and_then self (keep_stretched_of gate now system) }
     {
-        if gate & self.state.flags.synchronized_hold {
-            self = self.and_then(|s| s.keep_stretched(gate, now, system));
-        }
-        self
-    }
-
-    #[tactic(auto, unfolding(crate::specs::Waiting::turn_filter_of))]
-    fn turn_filter(mut self, gate: bool, now: Time, clocks: Clocks) -> Stepped
-        ensures { result ≡ and_then self (turn_filter_of gate now clocks) }
-    {
-        if self.state.filter_wait.is_some() {
-            self = self.and_then(|s| s.turn_filter(gate, now, clocks));
-        }
-        self
-    }
-
-    #[tactic(auto, unfolding(crate::specs::Waiting::turn_setup_of))]
-    fn turn_setup(mut self, gate: bool, now: Time, clocks: Clocks) -> Stepped
-        ensures { result ≡ and_then self (turn_setup_of gate now clocks) }
-    {
-        if self.state.setup_wait.is_some() {
-            self = self.and_then(|s| s.turn_setup(gate, now, clocks));
+        if self.went_on() & gate & self.state.flags.synchronized_hold {
+            self = self.state.turn_clock(false, now, system);
         }
         self
     }

@@ -1,11 +1,10 @@
 // What each of the four waits brings when it fires.
-ghost use Rattle.std.specs.Prelude.{◌&&◌, ◌≡◌, None, not, true};
+ghost use Rattle.std.specs.Prelude.{◌≡◌, None, true};
 ghost use Rattle.iic.specs.Answers.{Stepped, fine};
 ghost use Rattle.iic.specs.Clocking.{clock_step_of, filter_fires_of, firing, monitor_step_of, stretch_of, toggle_of};
-ghost use Rattle.iic.specs.Inside.{due_after, went_on};
+ghost use Rattle.iic.specs.Inside.{due_after};
 ghost use Rattle.iic.specs.Over.{fired_by};
 ghost use Rattle.iic.specs.Setters.{set_clock_wait, set_monitor_wait, set_setup_wait, set_synchronized_hold};
-ghost use Rattle.iic.specs.Settled.{settled};
 ghost use Rattle.iic.specs.State.{drive_scl};
 ghost use Rattle.waits.specs.Ends.{due_of};
 ghost use Rattle.iic.specs.declared.Iic.{Iic};
@@ -70,7 +69,7 @@ impl Iic {
         } else {
             self.fine()
         };
-        next.and_then(|s| s.schedule_filter(now, system))
+        next.schedule_filter(now, system)
     }
 
     // SCL is still low though released: the clock's wait pauses.
@@ -206,16 +205,6 @@ impl Answered<()> {
         if acts(clock) {
             self = self.state.fire_clock(clock, now, system);
         }
-        if self.kicks() {
-            self = self.state.start_due(now, system);
-        }
-        self
-    }
-
-    // Whether something is due, and nothing was refused.
-    fn kicks(self) -> bool
-        ensures { result ≡ (went_on self.answer && not (settled self.state)) }
-    {
-        self.went_on() & !self.state.settled()
+        self.kick(now, system)
     }
 }

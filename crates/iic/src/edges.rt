@@ -57,9 +57,12 @@ impl Iic {
             return self.fine();
         }
         if self.commanded() {
-            return self.kick(now, system);
+            return self.fine().kick(now, system);
         }
-        self.end_frame().kick(now, system).and_then(|s| s.fall(now))
+        self.end_frame()
+            .fine()
+            .kick(now, system)
+            .and_then(|s| s.fall(now))
     }
 
     // SCL is high again: the wait that a stretched clock paused goes on.

@@ -1,9 +1,11 @@
 // The step that starts what is due: a condition, a frame, a clock; and the end of a hold.
-ghost use Rattle.std.specs.Prelude.{◌≡◌, false};
+ghost use Rattle.std.specs.Prelude.{◌≡◌, ◌&&◌, false, not};
+ghost use Rattle.iic.specs.Answers.{and_then};
+ghost use Rattle.iic.specs.Inside.{went_on};
 ghost use Rattle.iic.specs.Kick.{begin_condition_of, clock_frame_of, kick_of, release_hold_of};
 ghost use Rattle.iic.specs.Settled.{settled};
 
-use super::{Hold, Iic, Stepped};
+use super::{Answered, Hold, Iic, Stepped};
 use domain::Domain;
 use time::Time;
 
@@ -38,7 +40,8 @@ impl Iic {
         self.low_half(self.level(f)).start_clock(now, system)
     }
 
-    // What is due, on a state that isn't settled.
+    // What is due, on a state that isn't settled; never inlined, so that a call at which nothing is due doesn't pay for its locals.
+    #[inline(never)]
     #[tactic(auto, unfolding(crate::specs::Kick::kick_of))]
     pub(crate) fn start_due(self, now: Time, system: Domain) -> Stepped
         requires { settled self ≡ false }
@@ -48,16 +51,6 @@ impl Iic {
             return self.begin_condition(now, system);
         }
         self.next_frame().load_transmit().clock_frame(now, system)
-    }
-
-    // Starts what is due.
-    pub(crate) fn kick(self, now: Time, system: Domain) -> Stepped
-        ensures { result ≡ kick_of now system self }
-    {
-        if self.settled() {
-            return self.fine();
-        }
-        self.start_due(now, system)
     }
 
     // A register was served: SCL goes on after a wait.
@@ -72,5 +65,26 @@ impl Iic {
             self.start_setup(now, system)
         };
         next.and_then(|s| s.show().fine())
+    }
+}
+
+// After a step, and tested in the caller before the state is handed on: mostly nothing is due.
+impl Answered<()> {
+    // Whether something is due, and nothing was refused.
+    fn kicks(self) -> bool
+        ensures { result ≡ (went_on self.answer && not (settled self.state)) }
+    {
+        self.went_on() & !self.state.settled()
+    }
+
+    // Starts what is due.
+    #[inline(always)]
+    pub(crate) fn kick(mut self, now: Time, system: Domain) -> Stepped
+        ensures { result ≡ and_then self (kick_of now system) }
+    {
+        if self.kicks() {
+            self = self.state.start_due(now, system);
+        }
+        self
     }
 }

@@ -12,10 +12,9 @@ use registers::Register;
 use time::Time;
 use waits::ends::{half_end, is_on_system, sooner, system_end};
 
-// The guard is tested in place: as closures of `guarded` the calls copy the state more often, and a trace of writes takes a quarter longer. Never
-// inlined: a function pays at its entry for all its locals, and a caller of all these calls would pay for each of them.
+// The guard is tested in place: as closures of a function that tests it the calls copy the state more often, and a trace of writes takes a quarter
+// longer.
 impl Iic {
-    #[inline(never)]
     pub(crate) fn read_by(self, zero: bool, address: u16, now: Time, system: Domain) -> Answered<u8>
         ensures { result ≡ read_by zero self address now system }
     {
@@ -30,7 +29,6 @@ impl Iic {
             .answering(value)
     }
 
-    #[inline(never)]
     pub(crate) fn write_by(
         self,
         zero: bool,
@@ -55,10 +53,9 @@ impl Iic {
             return self.fine();
         }
         self.lines.raw = given;
-        self.schedule_filter(now, system)
+        self.fine().schedule_filter(now, system)
     }
 
-    #[inline(never)]
     pub(crate) fn input_pins_by(
         self,
         zero: bool,

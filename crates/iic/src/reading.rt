@@ -68,7 +68,7 @@ impl Iic {
         } else {
             self.fine()
         };
-        next.and_then(|s| s.kick(now, system))
+        next.kick(now, system)
     }
 
     #[tactic(auto, unfolding(crate::specs::Reading::read_at))]

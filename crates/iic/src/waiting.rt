@@ -1,10 +1,11 @@
 // How the four waits of a state start, pause and resume.
-ghost use Rattle.std.specs.Prelude.{◌≡◌, Option, Some};
-ghost use Rattle.iic.specs.Answers.{Stepped};
+ghost use Rattle.std.specs.Prelude.{◌&&◌, ◌≡◌, Option, Some};
+ghost use Rattle.iic.specs.Answers.{Stepped, and_then};
+ghost use Rattle.iic.specs.Inside.{went_on};
 ghost use Rattle.iic.specs.Waiting.{at_wait, clock_from, filter_from, monitor_from, schedule_filter_of, setup_from, start_clock_of, start_filter_of, start_monitor_of, start_setup_of, turn_clock_of, turn_filter_of, turn_monitor_of, turn_setup_of, wait_from, wants_filter};
 ghost use Rattle.iic.specs.declared.Iic.{Iic};
 
-use super::{Iic, Stepped};
+use super::{Answered, Iic, Stepped};
 use clocks::Clocks;
 use clocks::wait::ClockWait;
 use domain::Domain;
@@ -49,6 +50,8 @@ impl Iic {
         )
     }
 
+    // Always inlined: a call of it copies the state twice.
+    #[inline(always)]
     fn filter_from(self, made: Result<ClockWait, Refusal>) -> Stepped
         ensures { result ≡ filter_from made self }
     {
@@ -100,7 +103,8 @@ impl Iic {
         self.setup_from(ClockWait::system_after(now, cycles, system))
     }
 
-    // The filter's wait starts.
+    // The filter's wait starts; never inlined, so that levels that want none don't pay for its locals.
+    #[inline(never)]
     pub(crate) fn start_filter(self, now: Time, system: Domain) -> Stepped
         ensures { result ≡ start_filter_of now system self }
     {
@@ -112,17 +116,6 @@ impl Iic {
         ensures { result ≡ wants_filter self }
     {
         self.awake() & self.filter_wait.is_none() & self.unsettled()
-    }
-
-    // The filter's wait starts where it is wanted.
-    #[tactic(auto, unfolding(crate::specs::Waiting::schedule_filter_of))]
-    pub(crate) fn schedule_filter(self, now: Time, system: Domain) -> Stepped
-        ensures { result ≡ schedule_filter_of now system self }
-    {
-        if self.wants_filter() {
-            return self.start_filter(now, system);
-        }
-        self.fine()
     }
 
     // A step of a wait, where there is one.
@@ -140,7 +133,8 @@ impl Iic {
         }
     }
 
-    // The clock's wait resumes (true) or pauses (false).
+    // The clock's wait resumes (true) or pauses (false); never inlined, since several steps call it.
+    #[inline(never)]
     #[tactic(auto, unfolding(crate::specs::Waiting::turn_clock_of))]
     pub(crate) fn turn_clock(self, gate: bool, now: Time, system: Domain) -> Stepped
         ensures { result ≡ turn_clock_of gate now system self }
@@ -151,8 +145,6 @@ impl Iic {
         )
     }
 
-    // This one and the two below are never inlined: each is for a wait that is there, and a gate without one doesn't pay for its locals.
-    #[inline(never)]
     #[tactic(auto, unfolding(crate::specs::Waiting::turn_monitor_of))]
     pub(crate) fn turn_monitor(self, gate: bool, now: Time, system: Domain) -> Stepped
         ensures { result ≡ turn_monitor_of gate now system self }
@@ -163,7 +155,6 @@ impl Iic {
         )
     }
 
-    #[inline(never)]
     #[tactic(auto, unfolding(crate::specs::Waiting::turn_filter_of))]
     pub(crate) fn turn_filter(self, gate: bool, now: Time, clocks: Clocks) -> Stepped
         ensures { result ≡ turn_filter_of gate now clocks self }
@@ -174,7 +165,6 @@ impl Iic {
         )
     }
 
-    #[inline(never)]
     #[tactic(auto, unfolding(crate::specs::Waiting::turn_setup_of))]
     pub(crate) fn turn_setup(self, gate: bool, now: Time, clocks: Clocks) -> Stepped
         ensures { result ≡ turn_setup_of gate now clocks self }
@@ -183,5 +173,67 @@ impl Iic {
             self.setup_wait,
             |s, w| s.setup_from(turn_wait(gate, now, clocks, w)),
         )
+    }
+}
+
+// After a step, and tested before the state is handed on: mostly there is no such wait, or none is wanted. As closures of `and_then` a change of the gate
+// takes 1.4 times as long.
+impl Answered<()> {
+    // Whether a filter's wait is wanted, and nothing was refused.
+    fn wants_filter(self) -> bool
+        ensures { result ≡ (went_on self.answer && wants_filter self.state) }
+    {
+        self.went_on() & self.state.wants_filter()
+    }
+
+    // The filter's wait starts where it is wanted.
+    #[inline(always)]
+    pub(crate) fn schedule_filter(mut self, now: Time, system: Domain) -> Stepped
+        ensures { result ≡ and_then self (schedule_filter_of now system) }
+    {
+        if self.wants_filter() {
+            self = self.state.start_filter(now, system);
+        }
+        self
+    }
+
+    #[tactic(auto, unfolding(crate::specs::Waiting::turn_clock_of))]
+    pub(crate) fn turn_clock(mut self, gate: bool, now: Time, system: Domain) -> Stepped
+        ensures { result ≡ and_then self (turn_clock_of gate now system) }
+    {
+        if self.went_on() & self.state.clock_wait.is_some() {
+            self = self.state.turn_clock(gate, now, system);
+        }
+        self
+    }
+
+    #[tactic(auto, unfolding(crate::specs::Waiting::turn_monitor_of))]
+    pub(crate) fn turn_monitor(mut self, gate: bool, now: Time, system: Domain) -> Stepped
+        ensures { result ≡ and_then self (turn_monitor_of gate now system) }
+    {
+        if self.went_on() & self.state.monitor_wait.is_some() {
+            self = self.state.turn_monitor(gate, now, system);
+        }
+        self
+    }
+
+    #[tactic(auto, unfolding(crate::specs::Waiting::turn_filter_of))]
+    pub(crate) fn turn_filter(mut self, gate: bool, now: Time, clocks: Clocks) -> Stepped
+        ensures { result ≡ and_then self (turn_filter_of gate now clocks) }
+    {
+        if self.went_on() & self.state.filter_wait.is_some() {
+            self = self.state.turn_filter(gate, now, clocks);
+        }
+        self
+    }
+
+    #[tactic(auto, unfolding(crate::specs::Waiting::turn_setup_of))]
+    pub(crate) fn turn_setup(mut self, gate: bool, now: Time, clocks: Clocks) -> Stepped
+        ensures { result ≡ and_then self (turn_setup_of gate now clocks) }
+    {
+        if self.went_on() & self.state.setup_wait.is_some() {
+            self = self.state.turn_setup(gate, now, clocks);
+        }
+        self
     }
 }

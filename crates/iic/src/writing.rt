@@ -143,9 +143,10 @@ impl Iic {
         self = self.take_control(value);
         if self.enabled() {
             return self
+                .fine()
                 .schedule_filter(now, system)
                 .and_then(|s| s.stop_receive().fine())
-                .and_then(|s| s.kick(now, system));
+                .kick(now, system);
         }
         self = self.stop_shifter();
         self.filter_wait = None;
@@ -166,7 +167,7 @@ impl Iic {
         self = self.pull_sda(value);
         if self.takes_command(value) {
             self.command = Some(value & BBSY != 0);
-            return self.kick(now, system);
+            return self.fine().kick(now, system);
         }
         self.fine()
     }
@@ -186,9 +187,7 @@ impl Iic {
     fn write_data(self, value: u8, now: Time, system: Domain) -> Stepped
         ensures { result ≡ write_data_of value now system self }
     {
-        self.give_data(value)
-            .send_on(now, system)
-            .and_then(|s| s.kick(now, system))
+        self.give_data(value).send_on(now, system).kick(now, system)
     }
 
     #[tactic(auto, unfolding(crate::specs::Writing::write_at))]
@@ -205,7 +204,7 @@ impl Iic {
         match register {
             Register::ICCR1 => self.write_control(value, now, system),
             Register::ICCR2 => self.write_command(value, now, system),
-            Register::ICSR | Register::SAR => self.kick(now, system),
+            Register::ICSR | Register::SAR => self.fine().kick(now, system),
             Register::ICDRT => self.write_data(value, now, system),
             _ => self.fine(),
         }

@@ -9,5 +9,5 @@ use Rattle.answers.proofs.calls.given.Goals as goal
 pub returns : goal.returns
 returns c =
     let a = c.args in
-    c.input_pins_over.ensures ∙ ap (λ (k : Domain). input_pins_over a.state a.scl a.sda a.time k) c.trace_system.ensures
-    ∙ sym (input_pins_over_lem trace_clocks trace_free a.state a.scl a.sda a.time)
+    c.left.ensures ∙ c.input_pins_over.ensures ∙ ap (λ (k : Domain). input_pins_over a.state.now a.scl a.sda a.time k) c.trace_system.ensures
+    ∙ sym (input_pins_over_lem trace_clocks trace_free a.state.now a.scl a.sda a.time)

@@ -9,5 +9,5 @@ use Rattle.answers.proofs.calls.read.Goals as goal
 pub returns : goal.returns
 returns c =
     let a = c.args in
-    c.read_over.ensures ∙ ap (λ (k : Domain). read_over a.state a.address a.time k) c.trace_system.ensures
-    ∙ sym (read_over_lem trace_clocks trace_free a.state a.address a.time)
+    c.left.ensures ∙ c.read_over.ensures ∙ ap (λ (k : Domain). read_over a.state.now a.address a.time k) c.trace_system.ensures
+    ∙ sym (read_over_lem trace_clocks trace_free a.state.now a.address a.time)

@@ -9,5 +9,5 @@ use Rattle.answers.proofs.calls.written.Goals as goal
 pub returns : goal.returns
 returns c =
     let a = c.args in
-    c.write_over.ensures ∙ ap (λ (k : Domain). write_over a.state a.address a.value a.time k) c.trace_system.ensures
-    ∙ sym (write_over_lem trace_clocks trace_free a.state a.address a.value a.time)
+    c.left.ensures ∙ c.write_over.ensures ∙ ap (λ (k : Domain). write_over a.state.now a.address a.value a.time k) c.trace_system.ensures
+    ∙ sym (write_over_lem trace_clocks trace_free a.state.now a.address a.value a.time)

@@ -10,7 +10,6 @@ use Rattle.iic.specs.Clocking.{filter_fires_of}
 use Rattle.iic.specs.declared.Iic.{Iic}
 use Rattle.iic.proofs.Iic.filter_fires.Goals as goal
 use Rattle.iic.proofs.Iic.filter_fires.Goals.{then-edged, else-edged}
-use borrow.Author.Rules.{rules}
 
 pub returns : goal.returns
 unfolding filter_fires_of
@@ -22,5 +21,4 @@ returns c =
       | then-edged w ↦ w.next-is ∙ w.filtered_edges-next.ensures
       | else-edged w ↦ w.next-is ∙ w.fine-next.ensures ∙ sym (unedged a.self.lines.filtered a.now a.system u (sym c.edged.ensures ∙ w.if-edged.false))
     ] in
-    c.and_then.ensures (schedule_filter_of a.now a.system) (λ s r p. search rules)
-    ∙ ap (λ (o : Stepped). and_then o (schedule_filter_of a.now a.system)) (found ∙ ap f (ap (set_filter_wait None) c.filter_pass-self.ensures))
+    c.schedule_filter.ensures ∙ ap (λ (o : Stepped). and_then o (schedule_filter_of a.now a.system)) (found ∙ ap f (ap (set_filter_wait None) c.filter_pass-self.ensures))

@@ -11,7 +11,6 @@ use Rattle.iic.specs.Kick.{kick_of}
 use Rattle.iic.specs.Inside.{due_after}
 use Rattle.iic.specs.Clocking.{clock_step_of, filter_fires_of, fire_clock_of, fire_filter_of, fire_monitor_of, fire_setup_of, stretch_of}
 use Rattle.iic.specs.Answers.{Stepped, and_then, fine}
-use Rattle.iic.specs.AnswerLaws.{due_unsettled, kicked, unkicked}
 use Rattle.iic.proofs.Laws.{acted, idled}
 use Rattle.iic.proofs.clocking.Answered+unit.visit.Goals as goal
 use Rattle.iic.proofs.clocking.Answered+unit.visit.Goals.{Joined-acts-4, then-acts, else-acts, then-acts-2, else-acts-2, then-acts-3, else-acts-3, then-acts-4, else-acts-4}
@@ -70,19 +69,7 @@ waits c =
     ] in
     e4 ∙ ap (λ (u : Stepped). and_then u f4) (e3 ∙ ap (λ (u : Stepped). and_then u f3) (e2 ∙ ap (λ (u : Stepped). and_then u f2) e1))
 
-pub start_due-self-requires : goal.start_due-self-requires
-start_due-self-requires c =
+pub returns : goal.returns
+returns c =
     let a = c.args in
-    due_unsettled a.now a.system c.if-acts-4.self (sym c.kicks.ensures ∙ c.if-kicks.true)
-
-pub returns-then-kicks : goal.returns-then-kicks
-returns-then-kicks c =
-    let a = c.args in
-    c.start_due-self.ensures ∙ kicked a.now a.system c.if-acts-4.self (sym c.kicks.ensures ∙ c.if-kicks.true)
-    ∙ ap (λ (u : Stepped). and_then u (kick_of a.now a.system)) (waits c.before.before.before.before)
-
-pub returns-else-kicks : goal.returns-else-kicks
-returns-else-kicks c =
-    let a = c.args in
-    unkicked a.now a.system c.if-acts-4.self (sym c.kicks.ensures ∙ c.if-kicks.false)
-    ∙ ap (λ (u : Stepped). and_then u (kick_of a.now a.system)) (waits c.before.before)
+    c.kick.ensures ∙ ap (λ (u : Stepped). and_then u (kick_of a.now a.system)) (waits c.before)
