@@ -33,8 +33,8 @@ fn left<A: Copy>(done: Answered<A>, state: &mut Iic) -> Result<A, Refusal>
     done.answer
 }
 
-// The calls of a trace change the state in place: an answer with the state in it is of 264 bytes, and to clear more than 256 takes a call of `memset`. They
-// are never inlined, since a function pays at its entry for all its locals, and so a line pays for its own call alone.
+// The calls of a trace change the state in place: an `Outcome` is of 264 bytes, and to clear more than 256 takes a call of `memset`. They are never inlined,
+// since a function pays at its entry for all its locals, and so a line pays for its own call alone.
 
 // A read, over the system clock alone, which is all that it looks at.
 #[inline(never)]

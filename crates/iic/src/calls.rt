@@ -2,7 +2,6 @@
 // their own in document 01, so they go as such through calls and steps.
 ghost use Rattle.std.specs.Prelude.{◌≡◌};
 ghost use Rattle.iic.specs.Answers.{and_then};
-ghost use Rattle.iic.specs.declared.Iic.{Iic};
 ghost use Rattle.iic.specs.Calls.{advance_of, deadline_of, ends_of, guard_by, input_pins_of, interrupt_with_enable_of, keep_stretched_of, peek_of, pins_of, read_of, set_gate_of, turn_gate_of, turn_waits_of, validate_of, waits_refusal, write_of};
 
 use super::{Answered, Deadline, Ends, Iic, Stepped};
@@ -36,8 +35,7 @@ impl Iic {
         self.peek_at(Register::at(address))
     }
 
-    // `read`, `write`, `input_pins` and `set_gate` are never inlined: a function pays at its entry for all its locals, and a caller of them all would pay
-    // for each.
+    // `read`, `write` and `input_pins` are never inlined: a function pays at its entry for all its locals, and a caller of them all would pay for each.
     #[inline(never)]
     #[tactic(auto, unfolding(crate::specs::Calls::read_of))]
     pub fn read(mut self, address: u16, now: Time, clocks: Clocks) -> Answered<u8>
@@ -104,7 +102,6 @@ impl Iic {
     }
 
     // Whether the peripheral's clock runs.
-    #[inline(never)]
     #[tactic(auto, unfolding(crate::specs::Calls::set_gate_of))]
     pub fn set_gate(mut self, gate: bool, now: Time, clocks: Clocks) -> Stepped
         ensures { result ≡ set_gate_of self gate now clocks }

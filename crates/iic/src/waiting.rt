@@ -176,8 +176,8 @@ impl Iic {
     }
 }
 
-// After a step, and tested before the state is handed on: mostly there is no such wait, or none is wanted. As closures of `and_then` a change of the gate
-// takes 1.4 times as long.
+// After a step, and tested before the state is handed on: mostly there is no such wait, or none is wanted. As closures of `and_then` these would copy the
+// state at each step.
 impl Answered<()> {
     // Whether a filter's wait is wanted, and nothing was refused.
     fn wants_filter(self) -> bool
