@@ -1,4 +1,4 @@
-// What the programs of the commands share: reading the input, asking for arguments, and the exit status.
+// What the programs of the commands share: reading the input, whether an argument is there, and the exit status.
 #![tactic(auto)]
 
 ghost use Rattle.std.specs.Prelude.{◌≡◌, ◌≤◌, length, take};
